@@ -1,0 +1,10 @@
+pub mod Table
+pub mod Decoding
+pub mod Readings
+pub mod Places
+pub mod Back
+pub mod Spellings
+pub mod Ending
+pub mod Cuts
+pub mod Feeding
+pub mod OneWay
