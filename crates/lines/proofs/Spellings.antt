@@ -141,8 +141,8 @@ start-bytes xs h z l k =
     let s = four-of (getD xs 7 0) (getD xs 8 0) (getD xs 9 0) (getD xs 10 0) (at 7) (at 8) (at 9) (at 10) in
     record {
       bytes = all-listed xs 11 0 l
-      ∙ ap (λ (x : ℕ). x ∷ listed xs 1 10) z
-      ∙ sym (ap₂ (λ (ys zs : List ℕ). 0 ∷ getD xs 1 0 ∷ getD xs 2 0 ∷ (ys ++ zs)) m s);
+          ∙ ap (λ (x : ℕ). x ∷ listed xs 1 10) z
+          ∙ sym (ap₂ (λ (ys zs : List ℕ). 0 ∷ getD xs 1 0 ∷ getD xs 2 0 ∷ (ys ++ zs)) m s);
       sound = (at 1, k, omega (arith, at 3, at 4, at 5, at 6), omega (arith, at 7, at 8, at 9, at 10));
     }
 
@@ -153,8 +153,8 @@ route-bytes xs h z l =
     let w = two-of (getD xs 5 0) (getD xs 6 0) (at 5) (at 6) in
     record {
       bytes = all-listed xs 7 0 l
-      ∙ ap (λ (x : ℕ). x ∷ listed xs 1 6) z
-      ∙ sym (ap₂ (λ (ys zs : List ℕ). 1 ∷ getD xs 1 0 ∷ (ys ++ (getD xs 4 0 ∷ zs))) v w);
+          ∙ ap (λ (x : ℕ). x ∷ listed xs 1 6) z
+          ∙ sym (ap₂ (λ (ys zs : List ℕ). 1 ∷ getD xs 1 0 ∷ (ys ++ (getD xs 4 0 ∷ zs))) v w);
       sound = (at 1, omega (arith, at 2, at 3), at 4, omega (arith, at 5, at 6));
     }
 

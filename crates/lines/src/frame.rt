@@ -34,7 +34,10 @@ pub enum Frame {
         new_vci: u16,
     },
     /// 02: a cell arrives.
-    Cell { input: u8, cell: [u8; 53] },
+    Cell {
+        input: u8,
+        cell: [u8; 53],
+    },
     /// 03: the slot is decided, sent and closed.
     Close,
 }

@@ -10,8 +10,8 @@ ghost use mathlib.Core.Path.{_≡_};
 use super::Fed;
 use super::KEPT;
 use super::LINE_FEED;
-use super::SlotLine;
 use super::LineReader;
+use super::SlotLine;
 use crate::frame::frame_of;
 
 /// The place of the first 0A, or the length.

@@ -26,9 +26,9 @@ pub returns-in-Ok : need.returns-in-Ok
 returns-in-Ok c =
     record {
       answer = c .frame-in .ensures
-      ∙ ap (λ (k : ℕ). frameIn (take k (c .decode .last .bytes))) (sub-zero (c .in-Ok .n))
-      ∙ ap spelled (c .in-Ok .ensures tt .says)
-      ∙ sym (short-spelled (c .args .line .now) (omega arith));
+          ∙ ap (λ (k : ℕ). frameIn (take k (c .decode .last .bytes))) (sub-zero (c .in-Ok .n))
+          ∙ ap spelled (c .in-Ok .ensures tt .says)
+          ∙ sym (short-spelled (c .args .line .now) (omega arith));
       frames = frames-spelled;
       reading = one-reading;
       places = first-wrong;
