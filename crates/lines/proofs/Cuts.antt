@@ -1,23 +1,20 @@
 -- However an input is cut into pieces, a reader's answers are what its lines say.
 use mathlib.Core.Path.{_≡_, refl, sym, ap, ap₂, _∙_}
 use mathlib.Core.Bool.{Bool, true, false, cond}
-use mathlib.Core.Logic.{_⊎_, inl, inr}
+use mathlib.Core.Logic.{inl, inr}
 use mathlib.Core.List.{List, [], _∷_, _++_, append-assoc, append-nil}
 use Prim.Native.Nat.{ℕ, zero, suc, _+_, _<_, _≤_}
 use native.Mathlib.Omega.{arith}
-use native.Mathlib.Numerals.{add-one}
 use lib.Dec.{eqb, ltb, eqb·suc-zero}
 use lib.ListN.{length, take, drop}
-use Rattle.std.proofs.shelf.Lists.{take-all, drop-all, length-take-le, length-append}
-use Rattle.std.proofs.shelf.Tests.{lt-ltb, le-ltb, ltb-true, ltb-false, cases-bool, cases-lt, cases-eq, eq-eqb, ne-eqb}
-use Rattle.std.specs.declared.option.Option.{Option}
-use Rattle.std.specs.declared.option.Option.the-variants.{Some, None}
+use Rattle.std.proofs.shelf.Lists.{take-all, drop-all, length-take-le}
+use Rattle.std.proofs.shelf.Tests.{lt-ltb, ltb-true, ltb-false, cases-bool, cases-lt, cases-eq, eq-eqb, ne-eqb}
 use Rattle.lines.specs.Frames.{frameOf}
 use Rattle.lines.specs.declared.reader.SlotLine.{SlotLine}
 use Rattle.lines.specs.declared.reader.Fed.{Fed}
 use Rattle.lines.specs.Lines.{linesAfter, lines, upTo, ends}
 use Rattle.lines.specs.Reading.{Reading, Reads, ended, piece, after, fed, last, asList, numbered, next, lineOf, fresh, still, AnyCut}
-use Rattle.lines.proofs.Ending.{upTo-other, upTo-end, upTo-none, upTo-le, take-take-append}
+use Rattle.lines.proofs.Ending.{upTo-other, upTo-end, upTo-none, take-take-append}
 
 -- a line's meaning shows in its first 201 bytes
 pub frame-front : (xs : List ℕ) → frameOf (take 201 xs) ≡ frameOf xs

@@ -4,7 +4,6 @@ use mathlib.Core.Bool.{true, false}
 use mathlib.Core.List.{List, [], _∷_, _++_, append-assoc, append-nil}
 use Prim.Native.Nat.{ℕ, zero, suc, _+_, _<_, _≤_}
 use native.Mathlib.Omega.{arith}
-use native.Mathlib.Nat.{le-of-suc-le-suc, not-suc-le-zero}
 use lib.Dec.{eqb}
 use lib.ListN.{length, getD, take, drop, set}
 use Rattle.std.proofs.shelf.Lists.{drop-more, drop-all, take-more, take-more-set, take-all, length-append, length-take-le, take-append-le}
@@ -37,11 +36,6 @@ pub passed : (xs : List ℕ) (i : ℕ) → length xs ≤ i → i + length (upTo 
 passed xs i h =
     let e : length (upTo (drop i xs)) ≡ 0 = ap (λ (zs : List ℕ). length (upTo zs)) (drop-all i xs h) ∙ ap length upTo-none in
     omega arith
-
-pub upTo-le : (xs : List ℕ) → length (upTo xs) ≤ length xs
-unfolding upTo
-upTo-le [] = omega arith
-upTo-le (b ∷ xs) = let r = upTo-le xs in let P = eqb b 10 in elim P as (λ v. length (mathlib.Core.Bool.cond v [] (b ∷ upTo xs)) ≤ suc (length xs)) [ true ↦ omega arith | false ↦ omega arith ]
 
 -- the bytes up to the first 0A are the front of that length
 pub upTo-take : (xs : List ℕ) → take (length (upTo xs)) xs ≡ upTo xs

@@ -1,8 +1,8 @@
 -- What a call gives where its piece has a 0A.
-use mathlib.Core.Path.{_≡_, refl, sym, ap, ap₂, _∙_}
-use mathlib.Core.Bool.{Bool, true, false, cond}
-use mathlib.Core.List.{List, [], _∷_, _++_}
-use Prim.Native.Nat.{ℕ, _+_, _-_, _<_, _≤_}
+use mathlib.Core.Path.{_≡_, sym, ap, _∙_}
+use mathlib.Core.Bool.{true, false}
+use mathlib.Core.List.{List, [], _++_}
+use Prim.Native.Nat.{ℕ, _+_, _-_, _<_}
 use native.Mathlib.Nat.{sub-zero}
 use native.Mathlib.Omega.{arith}
 use lib.Dec.{ltb}
@@ -15,7 +15,7 @@ use Rattle.refusals.specs.declared.refusal.Refusal.{Refusal}
 use Rattle.lines.specs.Frames.{frameOf}
 use Rattle.lines.specs.declared.reader.Fed.{Fed}
 use Rattle.lines.specs.Lines.{upTo, ends}
-use Rattle.lines.specs.Reading.{Reading, after, fed, next, lineOf}
+use Rattle.lines.specs.Reading.{Reading, after, fed, next}
 use Rattle.lines.proofs.Ending.{upTo-take}
 use Rattle.lines.proofs.Cuts.{frame-front}
 

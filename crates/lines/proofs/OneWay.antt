@@ -1,13 +1,13 @@
 -- Every input is cut into lines in one way.
 use mathlib.Core.Path.{_≡_, refl, sym, ap, subst, _∙_}
-use mathlib.Core.Bool.{true, false}
-use mathlib.Core.Logic.{_⊎_, inl, inr}
+use mathlib.Core.Bool.{false}
+use mathlib.Core.Logic.{inl, inr}
 use mathlib.Core.List.{List, [], _∷_, _++_, append-assoc, append-nil}
 use Prim.Native.Nat.{ℕ, suc, _<_}
 use native.Mathlib.Omega.{arith}
 use lib.Dec.{eqb, eqb·suc-zero}
 use lib.ListN.{length}
-use Rattle.std.proofs.shelf.Tests.{eq-eqb, ne-eqb, cases-eq}
+use Rattle.std.proofs.shelf.Tests.{ne-eqb, cases-eq}
 use Rattle.lines.specs.Lines.{linesAfter, lines}
 use Rattle.lines.specs.Lined.{Plain, Lined, none, last, line, OneWay}
 

@@ -1,18 +1,17 @@
 -- Where a line goes wrong.
-use mathlib.Core.Path.{_≡_, refl, sym, ap, ap₂, subst, _∙_}
-use mathlib.Core.Bool.{Bool, true, false, cond}
+use mathlib.Core.Path.{_≡_, refl, sym, ap, subst, _∙_}
+use mathlib.Core.Bool.{true, false, cond}
 use mathlib.Core.Logic.{_⊎_, inl, inr}
 use mathlib.Core.List.{List, [], _∷_, _++_}
-use Prim.Native.Nat.{ℕ, zero, suc, _+_, _*_, _<_, _≤_}
-use native.Mathlib.Numerals.{add-one}
+use Prim.Native.Nat.{ℕ, zero, suc, _+_, _*_, _<_}
 use native.Mathlib.Omega.{arith}
 use lib.Dec.{eqb, ltb}
 use lib.ListN.{length, take}
 use Rattle.std.proofs.shelf.Tests.{ltb-true, eqb-true, cases-bool}
 use Rattle.std.specs.declared.result.Result.{Result}
 use Rattle.std.specs.declared.result.Result.the-variants.{Ok, Err}
-use Rattle.lines.specs.Hex.{digit, isDigit, front, pair, pairs, hex}
-use Rattle.lines.specs.Spelled.{Pairs, one, next, spaced, Spelled, nothing, pairs-of, OneReading, Begins, FirstWrong}
+use Rattle.lines.specs.Hex.{digit, isDigit, front, pair, pairs}
+use Rattle.lines.specs.Spelled.{Pairs, one, next, spaced, pairs-of, Begins, FirstWrong}
 use Rattle.lines.proofs.Decoding.{wrong, wrong-low}
 use Rattle.lines.proofs.Readings.{never, one-reading}
 

@@ -1,7 +1,7 @@
 -- A line is read as a frame exactly if it spells that frame, and each frame has one spelling in upper case without spaces.
 use mathlib.Core.Path.{_≡_, refl, sym, ap, ap₂, subst, _∙_}
 use mathlib.Core.Bool.{true, false, cond, _&&_}
-use mathlib.Core.Logic.{_⊎_, inl, inr}
+use mathlib.Core.Logic.{inl, inr}
 use mathlib.Core.List.{List, [], _∷_, _++_}
 use Prim.Native.Nat.{ℕ, zero, suc, _+_, _-_, _*_, _/_, _%_, _<_, _≤_}
 use native.Mathlib.Omega.{arith}
@@ -14,7 +14,7 @@ use Rattle.std.specs.Results.{isOk}
 use Rattle.std.specs.declared.result.Result.{Result}
 use Rattle.std.specs.declared.result.Result.the-variants.{Ok, Err}
 use Rattle.refusals.specs.declared.refusal.Refusal.{Refusal}
-use Rattle.refusals.specs.declared.refusal.Refusal.the-variants.{LineTooLong, WrongDigit, UnknownKind, FrameLength, UnknownArbiter}
+use Rattle.refusals.specs.declared.refusal.Refusal.the-variants.{LineTooLong, WrongDigit, UnknownKind, FrameLength}
 use Rattle.lines.specs.declared.frame.Frame.{Frame}
 use Rattle.lines.specs.declared.frame.Frame.the-variants.{Start, Route, Cell, Close}
 use Rattle.lines.specs.declared.frame.ArbiterKind.{ArbiterKind}

@@ -1,15 +1,12 @@
 -- What a reader answers, call by call and over a whole input.
 use mathlib.Core.Path.{_≡_}
-use mathlib.Core.Bool.{Bool, true, false, cond}
-use mathlib.Core.List.{List, [], _∷_, _++_, map}
+use mathlib.Core.Bool.{cond}
+use mathlib.Core.List.{List, [], _∷_, _++_}
 use Prim.Native.Nat.{ℕ, _+_, min}
 use lib.Dec.{eqb}
 use lib.ListN.{length, take, drop}
 use Rattle.std.specs.declared.option.Option.{Option}
 use Rattle.std.specs.declared.option.Option.the-variants.{Some, None}
-use Rattle.std.specs.declared.result.Result.{Result}
-use Rattle.lines.specs.declared.frame.Frame.{Frame}
-use Rattle.refusals.specs.declared.refusal.Refusal.{Refusal}
 use Rattle.lines.specs.Frames.{frameOf}
 use Rattle.lines.specs.declared.reader.SlotLine.{SlotLine}
 use Rattle.lines.specs.declared.reader.Fed.{Fed}

@@ -1,14 +1,12 @@
-use borrow.Author.Needs.{needs}
 use native.Mathlib.Omega.{arith}
-use mathlib.Core.Path.{_≡_, refl, sym, ap, _∙_}
+use mathlib.Core.Path.{_≡_, sym, ap, _∙_}
 use mathlib.Core.Logic.{_⊎_, inl, inr}
-use mathlib.Core.List.{List, [], _∷_}
-use Prim.Native.Nat.{ℕ, _+_, _*_, _<_, _≤_}
+use mathlib.Core.List.{List}
+use Prim.Native.Nat.{ℕ, _+_, _*_}
 use lib.ListN.{length, getD, take, drop, set, length-set}
 use Rattle.std.specs.declared.result.Result.{Result}
-use Rattle.std.specs.declared.result.Result.the-variants.{Ok, Err}
-use Rattle.lines.specs.Hex.{digit, hex, pairs}
-use Rattle.lines.proofs.Decoding.{before, from, start, at-digit, past-space, no-pair, ends-at-high, ends-short, ends-at-low, ends-missing, turn, whole, Here}
+use Rattle.lines.specs.Hex.{digit, pairs}
+use Rattle.lines.proofs.Decoding.{before, at-digit, past-space, no-pair, ends-at-high, ends-short, ends-at-low, ends-missing, turn, whole, Here}
 use Rattle.lines.proofs.hex.decode.Needs as need
 use Rattle.lines.proofs.hex.decode.Needs.{then-n-eq0·by·then-n-eq0, then-n-eq0·by·else-n-eq0·then-line-i-ne-SPACE, then-high-gt15·else-n-eq0·else-line-i-ne-SPACE·else-i-line·else-high-gt15-2, else-high-gt15, Joined-high-gt15}
 

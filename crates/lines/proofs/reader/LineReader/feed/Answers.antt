@@ -1,9 +1,8 @@
-use borrow.Author.Needs.{needs}
 use native.Mathlib.Omega.{arith}
 use native.Mathlib.Nat.{sub-zero}
-use mathlib.Core.Path.{_≡_, sym, ap, _∙_}
+use mathlib.Core.Path.{_≡_, ap, _∙_}
 use mathlib.Core.List.{List, [], _++_}
-use Prim.Native.Nat.{ℕ, _+_, _<_, min}
+use Prim.Native.Nat.{ℕ, _+_, _<_}
 use lib.ListN.{length, take}
 use Rattle.lines.specs.Frames.{frameOf}
 use Rattle.lines.specs.declared.reader.LineReader.{LineReader}

@@ -1,5 +1,4 @@
-use borrow.Author.Needs.{needs}
-use mathlib.Core.Path.{_≡_, refl}
+use mathlib.Core.Path.{refl}
 use Rattle.lines.proofs.Cuts.{any-cut}
 use Rattle.lines.proofs.OneWay.{one-way}
 use Rattle.lines.proofs.reader.LineReader.new.Needs as need
