@@ -8,3 +8,4 @@ pub mod Ending
 pub mod Cuts
 pub mod Feeding
 pub mod OneWay
+pub mod Writing

@@ -5,3 +5,4 @@ pub mod Spelling
 pub mod Lines
 pub mod Lined
 pub mod Reading
+pub mod Written
