@@ -1,0 +1,17 @@
+use borrow.Author.Needs.{needs}
+use Rattle.routes.proofs.Steps.{Sound, without-kept, without-map}
+use Rattle.routes.proofs.tables.Routes.without.Needs as need
+
+pub ghost-result : need.ghost-result
+ghost-result c =
+    let self = c .args .self in
+    let ok : Sound (self .routes) (self .counts) = record { places = search needs; inputs = search needs; room = self .room; distinct = self .distinct; outputs = self .outputs; counted = self .counted } in
+    let e = without-kept (self .routes) (self .counts) (c .args .input) (c .args .k) ok (search needs) (search needs) (search needs) in
+    rw (c .written .ensures) (search (needs, e))
+
+pub returns : need.returns
+returns c =
+    let self = c .args .self in
+    let ok : Sound (self .routes) (self .counts) = record { places = search needs; inputs = search needs; room = self .room; distinct = self .distinct; outputs = self .outputs; counted = self .counted } in
+    let e = without-map (self .routes) (self .counts) (c .args .input) (c .args .k) ok (search needs) (search needs) in
+    record { map = search (needs, e); counted = search needs }
