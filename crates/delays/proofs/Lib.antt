@@ -1,0 +1,2 @@
+mod Acceptances
+pub mod Leaving

@@ -1,0 +1,4 @@
+pub mod PortCounts
+pub mod Cell
+pub mod Diagonal
+pub mod Ripple

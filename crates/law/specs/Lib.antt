@@ -1,0 +1,5 @@
+pub mod View
+pub mod Calls
+pub mod Runs
+pub mod History
+pub mod Law

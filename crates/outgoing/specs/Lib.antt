@@ -1,0 +1,4 @@
+pub mod Headers
+pub mod Look
+pub mod Results
+pub mod SlotBytes

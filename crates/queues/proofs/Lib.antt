@@ -1,0 +1,7 @@
+mod Following
+mod Moving
+mod Starting
+pub mod Views
+mod Counting
+mod Cases
+mod Lawful

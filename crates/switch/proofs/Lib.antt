@@ -1,0 +1,13 @@
+mod PortSets
+mod Firsts
+mod Requests
+mod Decisions
+mod Heads
+mod Notes
+mod Middle
+mod Inputs
+mod Arrivals
+mod Starts
+mod Views
+mod Departures
+mod Slots
