@@ -9,7 +9,9 @@ ghost use mathlib.Core.Path.{_≡_};
 
 /// The kinds of the lines that are written.
 const DEPARTURE: u8 = 0x82;
+
 const CLOSING: u8 = 0x83;
+
 const REFUSAL: u8 = 0x8F;
 
 /// What ends a line.
