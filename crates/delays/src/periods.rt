@@ -53,7 +53,7 @@ impl Periods {
 fn fits(period: u8) -> bool
     ensures { λ r. ⌜ r ≡ periodFits period ⌝ }
 {
-    2 <= period && period <= 65
+    2 <= period && period <= 64
 }
 
 /// The longest wait with a reservation of this period, from the longest without it.

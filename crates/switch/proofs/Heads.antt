@@ -29,8 +29,8 @@ behind-none next b = refl
 -- the head of a list is one of the blocks
 pub head-inside : {B : ℕ} (l : Links B) (q b : ℕ) (rest : List ℕ) → q < 9 → blocksOf l q ≡ b ∷ rest → b < B
 head-inside l q b rest lq e =
-    let r = from-head (l .next) (getD (l .head) q 0) (size (l .count) q) b rest e in
-    omega (arith, r .0, l .inside q 0 lq (r .1), behind-none (l .next) (getD (l .head) q 0))
+    let r = from-head (l .lists .next) (getD (l .lists .head) q 0) (size (l .lists .count) q) b rest e in
+    omega (arith, r .0, l .inside q 0 lq (r .1), behind-none (l .lists .next) (getD (l .lists .head) q 0))
 
 pub view-at : {B : ℕ} (l : Links B) (q : ℕ) → q < 8 → view l .queue q ≡ blocksOf l q
 view-at l q h = ap (λ (b : Bool). cond b (blocksOf l q) []) (lt-ltb q 8 h)
