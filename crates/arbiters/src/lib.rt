@@ -1,4 +1,5 @@
 //! Crossbar arbiters: what an arbiter is, the diagonal and the ripple arbiter, and the reservation that stands on any arbiter.
+#![tactic(auto)]
 
 mod arbiter;
 mod diagonal;

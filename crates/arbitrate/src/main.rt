@@ -1,6 +1,7 @@
 //! Tries an arbiter, line by line from standard input. `diagonal N` or `ripple N` starts anew; `period K` puts a reservation on what
 //! stands, up to three; `reserve I O` reserves a pair at the topmost; `wait I O` asks for a wait; 16 hexadecimal digits are a table of
 //! requests, which is decided. Each line is answered by one.
+#![tactic(auto)]
 
 mod answer;
 mod command;

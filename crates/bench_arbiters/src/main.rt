@@ -2,6 +2,7 @@
 //! (diagonal, ripple or reservation), how many random words make a table (1: every pair is in it with a chance of 1/2; 2 and 3: 3/4
 //! and 7/8 where the last argument is `dense`, else 1/4 and 1/8), how many decisions, and `dense` or `sparse`. It writes a sum over
 //! the grants.
+#![tactic(auto)]
 
 use anyhow::anyhow;
 use arbiters::{Arbiter, Diagonal, Reservation, Ripple};

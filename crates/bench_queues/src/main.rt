@@ -1,4 +1,5 @@
 //! Joins and takes on eight queues in 64 blocks, as many as the first argument says, for the time that they need.
+#![tactic(auto)]
 
 use queues::Links;
 use std::{env, io};

@@ -1,5 +1,6 @@
 //! Finds routes in tables with 32 at each of 8 inputs, as often as its argument says, and writes a sum over what it found:
 //! the program that the bench line of the routes times. Of forty VCIs that it asks for, eight have no route.
+#![tactic(auto)]
 
 use routes::{Route, Routes};
 use std::env;

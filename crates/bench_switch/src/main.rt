@@ -1,6 +1,7 @@
 //! Runs a switch of eight ports under full load for as many slots as its argument says (1000 if left out), and writes what was
 //! accepted, refused and sent, and a sum over all answers: the program that the bench line of the switch times. What it does in
 //! detail stands at the head of bench/switch.rs, a plain switch that does the same.
+#![tactic(auto)]
 
 use anyhow::anyhow;
 use arbiters::Diagonal;

@@ -1,4 +1,5 @@
 //! Drives the switch through every call and every refusal, chapter by chapter, and writes what each call answered.
+#![tactic(auto)]
 
 mod answers;
 mod chapters;

@@ -1,5 +1,6 @@
 //! The 53-byte cell of the user network interface: the fields of its header as ITU-T I.361 lays them out,
 //! the rewriting of its VCI, and the idle cell.
+#![tactic(auto)]
 
 mod header;
 mod idle;

@@ -1,4 +1,5 @@
 //! Prints, for some port counts and periods, how long a cell may wait in a switch over a pile of three reservations.
+#![tactic(auto)]
 
 ghost use Rattle.delays.specs.Delays.{Answers, closings_until_left, longest_wait};
 ghost use Rattle.std.specs.Prelude.{◌≡◌};

@@ -1,4 +1,5 @@
 //! After how many closings a cell has left a switch over a pile of three reservations.
+#![tactic(auto)]
 
 mod periods;
 mod piles;

@@ -1,4 +1,5 @@
 //! Ten worked figures of headers and arbiters, as one theorem about the definitions.
+#![tactic(auto)]
 
 ghost use Rattle.figures.specs.Worked.{Figures};
 ghost use Rattle.std.specs.Prelude.{◌≡◌};

@@ -1,4 +1,5 @@
 //! Lists a recording of slot lines from standard input, frame by frame, for a person.
+#![tactic(auto)]
 
 mod listing;
 

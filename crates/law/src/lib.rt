@@ -2,6 +2,7 @@
 //!
 //! The code of this crate is only what lies in lent memory, what the calls answer, and how far a slot has come: the
 //! definitions, in `specs/`, and the code of the switch both speak of these types.
+#![tactic(auto)]
 
 pub mod answers;
 pub mod memory;

@@ -1,4 +1,5 @@
 //! Slot lines: a recording cut into lines, the frame that each line spells or why it spells none, and the lines that are written.
+#![tactic(auto)]
 
 mod frame;
 mod hex;

@@ -1,5 +1,6 @@
 //! The way out of the switch: the bytes of a cell as it leaves, shown from cell memory before it leaves, written into
 //! the slot bytes of its output when it does, and read there afterwards.
+#![tactic(auto)]
 
 mod line;
 mod look;

@@ -1,5 +1,6 @@
 //! A recording played: its lines read, their frames played on the switch that the first names, and what it answers written as
 //! lines.
+#![tactic(auto)]
 
 mod player;
 mod playing;

@@ -2,6 +2,7 @@
 //!
 //! `Links` has the order of the blocks in each queue and of the free ones. What the blocks hold is a slice that the
 //! caller lends at each call, so the same links serve every kind of element, and a part of a larger memory as well.
+#![tactic(auto)]
 
 mod links;
 mod lists;

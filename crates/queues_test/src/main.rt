@@ -1,4 +1,5 @@
 //! Cells of a port in 16 blocks in the middle of 128, and notes in 64 blocks, run on an example.
+#![tactic(auto)]
 
 mod parts;
 

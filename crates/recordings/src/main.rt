@@ -1,6 +1,7 @@
 //! Plays the recordings in its standard input, each after a line that begins with # and names it, and writes the name and what
 //! each comes to. Every recording is played several times, cut into pieces of other sizes; where that changes anything, it says so.
 //! A recording whose name ends with (no last line feed) has no 0A at its end.
+#![tactic(auto)]
 
 ghost use Rattle.std.specs.Prelude.{◌<◌, ◌≤◌, length};
 

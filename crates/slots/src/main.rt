@@ -1,5 +1,6 @@
 //! Plays a recording of slot lines from standard input on the switch that it names, and writes what the switch answers as slot
 //! lines to standard output. It only moves bytes: the crate `player` has every rule.
+#![tactic(auto)]
 
 use anyhow::anyhow;
 use player::Player;

@@ -1,4 +1,5 @@
 //! The crossbar cell switch: its state, its tickets and its ten calls.
+#![tactic(auto)]
 
 pub mod state;
 pub mod tickets;
