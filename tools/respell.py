@@ -16,6 +16,8 @@ import sys
 # What would otherwise have the name of something else in its module.
 SPECIAL = {
     "has_part": "has_part_lem",  # the lemma on `hasPart`, which becomes `has_part`
+    "join_by": "join_by_lem",  # the lemma on `joinBy`
+    "take_by": "take_by_lem",  # the lemma on `takeBy`
     "inOrder": "gathered",  # beside the field `in_order` of a record in its module
 }
 WORD = re.compile(r"(?<![A-Za-z0-9_'\\])[A-Za-z_][A-Za-z0-9_']*")

@@ -58,12 +58,12 @@ module _ {E : Type 0} (B : ℕ) (s : Queues) (xs : List E) (q : ℕ) where
         comes = ap (λ r. unless r s xs (join_by s xs q v s.free)) e ∙ ap (λ l. join_by (queues_of s.queue l) xs q v l) f;
       })
 
-  join_by : (v : E) (r : Result (Unit {0}) QueueRefusal) → fits B (length xs) q ≡ r → Refused (join_call B s xs q v) ⊎ Joins v
-  join_by v (Ok x) e = join-fits v s.free x refl e
-  join_by v (Err k) e = inl (k, ap (λ r. unless r s xs (join_by s xs q v s.free)) e)
+  join_by_lem : (v : E) (r : Result (Unit {0}) QueueRefusal) → fits B (length xs) q ≡ r → Refused (join_call B s xs q v) ⊎ Joins v
+  join_by_lem v (Ok x) e = join-fits v s.free x refl e
+  join_by_lem v (Err k) e = inl (k, ap (λ r. unless r s xs (join_by s xs q v s.free)) e)
 
   pub join-cases : (v : E) → Refused (join_call B s xs q v) ⊎ Joins v
-  join-cases v = join_by v (fits B (length xs) q) refl
+  join-cases v = join_by_lem v (fits B (length xs) q) refl
 
   take-read : (b : ℕ) (rest : List ℕ) (x : Unit {0}) (o : Option E) → s.queue q ≡ b ∷ rest → slice_get xs b ≡ o → read_call B s xs q ≡ held o → fits B (length xs) q ≡ Ok x → Refused (take_call B s xs q) ⊎ Takes
   take-read b rest x None f n r e = inl (_, ap (take_by s xs q) r)
@@ -83,9 +83,9 @@ module _ {E : Type 0} (B : ℕ) (s : Queues) (xs : List E) (q : ℕ) where
   take-fits (b ∷ rest) x f e =
       take-read b rest x (slice_get xs b) f refl (ap (λ r. then r (read_by xs (head_of (s.queue q)))) e ∙ ap (λ l. read_by xs (head_of l)) f) e
 
-  take_by : (r : Result (Unit {0}) QueueRefusal) → fits B (length xs) q ≡ r → Refused (take_call B s xs q) ⊎ Takes
-  take_by (Ok x) e = take-fits (s.queue q) x refl e
-  take_by (Err k) e = inl (k, ap (take_by s xs q) (ap (λ r. then r (read_by xs (head_of (s.queue q)))) e))
+  take_by_lem : (r : Result (Unit {0}) QueueRefusal) → fits B (length xs) q ≡ r → Refused (take_call B s xs q) ⊎ Takes
+  take_by_lem (Ok x) e = take-fits (s.queue q) x refl e
+  take_by_lem (Err k) e = inl (k, ap (take_by s xs q) (ap (λ r. then r (read_by xs (head_of (s.queue q)))) e))
 
   pub take_cases : Refused (take_call B s xs q) ⊎ Takes
-  take_cases = take_by (fits B (length xs) q) refl
+  take_cases = take_by_lem (fits B (length xs) q) refl
