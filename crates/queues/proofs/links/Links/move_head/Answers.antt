@@ -29,6 +29,6 @@ returns-then-self-from-eq0 g c =
 pub returns : goal.returns
 returns g c =
     let s = step c.args.self.now c.args.from c.args.to c.requires.0 c.requires.1.0 c.requires.1.1 (omega (arith, c.if-self-from-eq0.false))
-    (omega arith) (omega arith) (omega arith) (omega arith) c.move-head.new.self c.move-head.result
-    c.move-head.ensures.lists c.move-head.ensures.block in
+    (omega arith) (omega arith) (omega arith) (omega arith) c.move_head.new.self c.move_head.result
+    c.move_head.ensures.lists c.move_head.ensures.block in
     record { block = s.block; out = s.out; into = s.into; others = s.others }
