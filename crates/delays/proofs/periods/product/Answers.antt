@@ -2,5 +2,5 @@ use Rattle.std.proofs.Common.{mul-le-mul}
 use mir.Facts.{Fits-below}
 use Rattle.delays.proofs.periods.product.Goals as goal
 
-pub overflow-mul-result : goal.overflow-mul-result
-overflow-mul-result c = Fits-below tt (mul-le-mul c.requires.0 c.requires.1)
+pub overflow_mul-result : goal.overflow_mul-result
+overflow_mul-result c = Fits-below tt (mul-le-mul c.requires.0 c.requires.1)

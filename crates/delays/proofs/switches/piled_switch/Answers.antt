@@ -7,6 +7,6 @@ use Rattle.delays.proofs.switches.piled_switch.Goals as goal
 
 pub returns : goal.returns
 returns c =
-    let stands = c.in-ok-arbiter.ensures in
-    let new : view c.switch-over.result ≡ made piled c.in-ok-arbiter.arbiter c.args.mark c.args.first = search rules in
-    (stands.0, starts stands.1 new c.switch-over.ensures.law c.switch-over.ensures.leave)
+    let stands = c.in_ok-arbiter.ensures in
+    let new : view c.switch_over.result ≡ made piled c.in_ok-arbiter.arbiter c.args.mark c.args.first = search rules in
+    (stands.0, starts stands.1 new c.switch_over.ensures.law c.switch_over.ensures.leave)

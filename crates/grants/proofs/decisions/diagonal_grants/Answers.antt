@@ -15,10 +15,10 @@ diagonals-preserved c =
     let n : ℕ = c.number-n.result in
     let turn : c.args.turn % n < n = mod_below c.args.turn n (omega arith) in
     step c.args.requests n (c.args.turn % n) (omega arith) turn c.diagonals.k (omega arith)
-    c.diagonals.free c.diagonals.grants c.and-wanted.result c.of-sum.result c.of-sum-in-diagonals.result c.or-diagonal.result c.and-line.result
+    c.diagonals.free c.diagonals.grants c.and-wanted.result c.of_sum.result c.of_sum-in-diagonals.result c.or-diagonal.result c.and-line.result
     c.crossing.result c.minus-free.result c.or-grants.result c.diagonals.invariant
-    (c.of-sum.ensures ∙ ap (λ (s : ℕ). table_of (λ i o. eqb (i + o) s)) c.wrapped-sum.ensures)
-    (c.of-sum-in-diagonals.ensures ∙ ap (λ (s : ℕ). table_of (λ i o. eqb (i + o) (s + n))) c.wrapped-sum.ensures)
+    (c.of_sum.ensures ∙ ap (λ (s : ℕ). table_of (λ i o. eqb (i + o) s)) c.wrapped-sum.ensures)
+    (c.of_sum-in-diagonals.ensures ∙ ap (λ (s : ℕ). table_of (λ i o. eqb (i + o) (s + n))) c.wrapped-sum.ensures)
     c.or-diagonal.ensures c.and-wanted.ensures c.and-line.ensures c.or-grants.ensures c.crossing.ensures c.minus-free.ensures
 
 pub returns : goal.returns
@@ -29,9 +29,9 @@ returns c =
     (finish (holds c.args.requests) n (c.args.turn % n) c.diagonals.free c.diagonals.grants (mod_below c.args.turn n (omega arith))
     (subst (λ (m : ℕ). Front (holds c.args.requests) n (c.args.turn % n) m c.diagonals.free c.diagonals.grants) e c.diagonals.invariant))
 
-pub returns-in-default : goal.returns-in-default
-returns-in-default c =
+pub returns-in_default : goal.returns-in_default
+returns-in_default c =
     let n : ℕ = c.number-n.result in
     subst (λ (m : ℕ). c.diagonals.grants ≡ table_of (within m (diagonal_granted (holds c.args.requests) m (c.args.turn % m)))) c.number-n.ensures
     (stop c.args.requests c.and-wanted.result n (c.args.turn % n) c.diagonals.k c.diagonals.free c.diagonals.grants (omega arith) c.diagonals.invariant
-    c.and-wanted.ensures c.in-default.ensures)
+    c.and-wanted.ensures c.in_default.ensures)

@@ -25,7 +25,7 @@ rows-preserved c =
     let input : c.wrapped-input.result ≡ (c.rows.u + a) % n = c.wrapped-input.ensures in
     let outputs : c.outputs.result ≡ ports_of (holds c.args.requests ((c.rows.u + a) % n)) =
     c.outputs.ensures ∙ ap (λ (i : ℕ). ports_of (holds c.args.requests i)) input in
-    elim c.match-first-from.branch [
+    elim c.match-first_from.branch [
       | in-Some w ↦
           subst₂ (λ (f : Ports) (g : Table). Walk (holds c.args.requests) n a b (c.rows.u + 1) f g) (sym w.free-is) (sym w.grants-is)
           (give c.args.requests n a b (omega arith) row column c.rows.u (omega arith) c.and.result c.rows.free c.rows.grants c.rows.invariant
@@ -35,7 +35,7 @@ rows-preserved c =
       | in-default w ↦
           subst₂ (λ (f : Ports) (g : Table). Walk (holds c.args.requests) n a b (c.rows.u + 1) f g) (sym w.free-is) (sym w.grants-is)
           (skip c.args.requests n a b (omega arith) row column c.rows.u (omega arith) c.and.result c.rows.free c.rows.grants c.rows.invariant
-          c.outputs.result outputs c.and.ensures w.in-default.ensures)
+          c.outputs.result outputs c.and.ensures w.in_default.ensures)
     ]
 
 pub returns : goal.returns

@@ -22,7 +22,7 @@ returns-in-Err c =
 pub returns-in-Ok : goal.returns-in-Ok
 returns-in-Ok c =
     record {
-      answer = c.frame-in.ensures
+      answer = c.frame_in.ensures
           ∙ ap (λ (k : ℕ). frame_in (take k c.decode.new.bytes)) (sub-zero c.in-Ok.n)
           ∙ ap spelled c.in-Ok.ensures.says
           ∙ sym (short-spelled c.args.line.now (omega arith));

@@ -5,6 +5,6 @@ use Rattle.lines.proofs.written.departure_line.Goals as goal
 
 pub returns : goal.returns
 returns c =
-    let l : length c.departure-bytes.result ≡ 64 = omega arith in
-    spelled-line c.departure-bytes.result (replicate 129 10) c.spell-into.new.line c.spell-into.result (omega arith) (ap (λ (k : ℕ). drop (2 * k) (replicate 129 10)) l) c.spell-into.ensures.used c.spell-into.ensures.line
-    ∙ ap written c.departure-bytes.ensures
+    let l : length c.departure_bytes.result ≡ 64 = omega arith in
+    spelled-line c.departure_bytes.result (replicate 129 10) c.spell_into.new.line c.spell_into.result (omega arith) (ap (λ (k : ℕ). drop (2 * k) (replicate 129 10)) l) c.spell_into.ensures.used c.spell_into.ensures.line
+    ∙ ap written c.departure_bytes.ensures

@@ -15,4 +15,4 @@ loop-i-preserved c =
       | then-bytes-room w ↦ (omega (arith, w.n-is), omega (arith, w.n-is))
       | else-bytes-room w ↦ (omega (arith, w.n-is), omega (arith, w.n-is))
     ] in
-    spell-turn c.args.bytes.now c.args.line.now c.loop-i.line c.loop-i.i c.digit-of.result c.digit-of-in-loop-i.result within.0 within.1 c.digit-of.ensures c.digit-of-in-loop-i.ensures c.loop-i.invariant
+    spell-turn c.args.bytes.now c.args.line.now c.loop-i.line c.loop-i.i c.digit_of.result c.digit_of-in-loop-i.result within.0 within.1 c.digit_of.ensures c.digit_of-in-loop-i.ensures c.loop-i.invariant

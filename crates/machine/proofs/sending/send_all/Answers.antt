@@ -8,8 +8,8 @@ use Rattle.machine.proofs.sending.send_all.Goals as goal
 pub loop-sent-init : goal.loop-sent-init
 loop-sent-init g c = begun (grant_of c.args.grants.now) _ (listed c.none-departures.result) c.none-departures.ensures
 
-pub send-one-requires : goal.send-one-requires
-send-one-requires g c = c.loop-sent.invariant.can c.args.ports c.requires.0
+pub send_one-requires : goal.send_one-requires
+send_one-requires g c = c.loop-sent.invariant.can c.args.ports c.requires.0
 
 pub push-requires : goal.push-requires
 push-requires g c = omega (arith, c.loop-sent.invariant.left, c.in-Some.ensures.fewer, c.requires.1)
@@ -24,6 +24,6 @@ loop-sent-preserved g c =
 pub returns : goal.returns
 returns g c =
     record {
-      sent = all-sent (grant_of c.args.grants.now) _ (listed c.loop-sent.departures) _ _ c.loop-sent.invariant c.in-default.ensures.0 c.in-default.ensures.1;
-      sized = (c.send-one.array_long, c.send-one.array-long2);
+      sent = all-sent (grant_of c.args.grants.now) _ (listed c.loop-sent.departures) _ _ c.loop-sent.invariant c.in_default.ensures.0 c.in_default.ensures.1;
+      sized = (c.send_one.array_long, c.send_one.array-long2);
     }

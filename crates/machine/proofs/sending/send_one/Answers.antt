@@ -11,8 +11,8 @@ use Rattle.machine.proofs.Departing.{Sized, Departure, lent-sized, departs, gone
 use Rattle.machine.proofs.Telling.{sent-one, none-sent}
 use Rattle.machine.proofs.sending.send_one.Goals as goal
 
-pub cell-at-requires : goal.cell-at-requires
-cell-at-requires g c =
+pub cell_at-requires : goal.cell_at-requires
+cell_at-requires g c =
     let n = c.args.ports in
     let v = view c.args.switch.now in
     let m = lent n c.args.blocks.now c.args.notes.now c.args.bytes.now in
@@ -30,24 +30,24 @@ unreachable-requires g c =
     let m = lent n c.args.blocks.now c.args.notes.now c.args.bytes.now in
     let sized : Sized n m = lent-sized n c.args.blocks.now c.args.notes.now c.args.bytes.now c.requires.eight c.told-blocks c.told-notes c.told-bytes in
     let gone = gone-by v w n (grant_of c.args.grants.now) c.in-Ok.departed m _ sized c.requires (outputs-pairs c.args.switch.now.ports c.args.switch.now.grants) c.in-Ok.ensures in
-    took_by w (view c.take-note.new.self) c.in-Ok.departed.output (record { cells = []; notes = c.depart.new.notes; bytes = [] }) _ (omega (arith, gone.output, gone.ports)) (c.depart.auto.notes ∙ c.told-notes) gone.waits (c.in-Err-take-note.ensures [] [])
+    took_by w (view c.take_note.new.self) c.in-Ok.departed.output (record { cells = []; notes = c.depart.new.notes; bytes = [] }) _ (omega (arith, gone.output, gone.ports)) (c.depart.auto.notes ∙ c.told-notes) gone.waits (c.in-Err-take_note.ensures [] [])
 
-pub returns-in-Ok-take-note : goal.returns-in-Ok-take-note
-returns-in-Ok-take-note g c =
+pub returns-in-Ok-take_note : goal.returns-in-Ok-take_note
+returns-in-Ok-take_note g c =
     let n = c.args.ports in
     let v = view c.args.switch.now in
     let w = view c.depart.new.self in
-    let z = view c.take-note.new.self in
+    let z = view c.take_note.new.self in
     let m = lent n c.args.blocks.now c.args.notes.now c.args.bytes.now in
     let sized : Sized n m = lent-sized n c.args.blocks.now c.args.notes.now c.args.bytes.now c.requires.eight c.told-blocks c.told-notes c.told-bytes in
     let bytes : n * 53 ≤ length c.args.bytes.now = omega (arith, c.requires.eight, c.told-bytes) in
     let d = c.in-Ok.departed in
     let gone = gone-by v w n (grant_of c.args.grants.now) d m _ sized c.requires (outputs-pairs c.args.switch.now.ports c.args.switch.now.grants) c.in-Ok.ensures in
-    let took = took_by w z d.output (record { cells = []; notes = c.depart.new.notes; bytes = [] }) _ (omega (arith, gone.output, gone.ports)) (c.depart.auto.notes ∙ c.told-notes) gone.waits (c.in-Ok-take-note.ensures [] []) in
+    let took = took_by w z d.output (record { cells = []; notes = c.depart.new.notes; bytes = [] }) _ (omega (arith, gone.output, gone.ports)) (c.depart.auto.notes ∙ c.told-notes) gone.waits (c.in-Ok-take_note.ensures [] []) in
     let written = part-written (n * 53) c.args.bytes.now c.depart.new.bytes bytes c.depart.auto.bytes in
     record {
-      departed = sent-one (grant_of c.args.grants.now) (sending v n c.args.blocks.now c.args.notes.now c.args.bytes.now) w z d c.in-Ok-take-note.note c.depart.new.notes c.depart.new.bytes _ c.cell-at.result
-          c.in-Ok.ensures (c.in-Ok-take-note.ensures m.cells c.depart.new.bytes) written (c.cell-at.ensures ∙ ap (part d.output) written);
+      departed = sent-one (grant_of c.args.grants.now) (sending v n c.args.blocks.now c.args.notes.now c.args.bytes.now) w z d c.in-Ok-take_note.note c.depart.new.notes c.depart.new.bytes _ c.cell_at.result
+          c.in-Ok.ensures (c.in-Ok-take_note.ensures m.cells c.depart.new.bytes) written (c.cell_at.ensures ∙ ap (part d.output) written);
       fewer = gone.fewer ∙ ap (λ (s : Slot). 1 + length s.grants) (sym took.3);
       can = still-can v w z (grant_of c.args.grants.now) d gone took;
     }

@@ -7,5 +7,5 @@ returns c =
     record {
       answer = search rules;
       bytes = search rules;
-      kept = unchanged _ _ _ _ c.show-block.ensures.kept;
+      kept = unchanged _ _ _ _ c.show_block.ensures.kept;
     }

@@ -2,8 +2,8 @@ use Rattle.std.proofs.Common.{rules}
 use Rattle.outgoing.proofs.Restoring.{restored}
 use Rattle.outgoing.proofs.look.show_block.Goals as goal
 
-pub returns-in-err-check-length : goal.returns-in-err-check-length
-returns-in-err-check-length c =
+pub returns-in_err-check_length : goal.returns-in_err-check_length
+returns-in_err-check_length c =
     record {
       answer = search rules;
       bytes = search rules;

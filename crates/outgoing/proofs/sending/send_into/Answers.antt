@@ -6,8 +6,8 @@ use Rattle.outgoing.proofs.sending.send_into.Goals as goal
 
 pub returns : goal.returns
 returns c =
-    let room : has_part c.args.output c.args.slot-bytes.now ≡ true = has_part_lem _ (length c.args.slot-bytes.now / 53) _ (omega arith) (omega arith) in
-    let sent : c.copy-from-slice.new.self ≡ leaving c.args.block.now = search rules in
+    let room : has_part c.args.output c.args.slot_bytes.now ≡ true = has_part_lem _ (length c.args.slot_bytes.now / 53) _ (omega arith) (omega arith) in
+    let sent : c.copy_from_slice.new.self ≡ leaving c.args.block.now = search rules in
     simp room (record {
       answer = refl;
       bytes = search (rules, overwritten, sent);

@@ -7,9 +7,9 @@ use Rattle.player.proofs.writing.write_sent.Goals as goal
 
 pub loop-sent-preserved : goal.loop-sent-preserved
 loop-sent-preserved c =
-    pushed c.departure-line-line.result c.loop-sent.invariant c.in-ok-extend-from-slice.was c.extend-from-slice.ensures.items
-    ∙ one-more-sent c.as-slice-all.result.now c.loop-sent.sent-index _ (vec_items c.args.out.now) c.departure-line-line.result c.loop-sent-test.true
-    (c.departure-line-line.ensures ∙ ap (λ (d : DepartureLine). written (departure_bytes d)) c.departure-of.ensures)
+    pushed c.departure_line-line.result c.loop-sent.invariant c.in_ok-extend_from_slice.was c.extend_from_slice.ensures.items
+    ∙ one-more-sent c.as_slice-all.result.now c.loop-sent.sent-index _ (vec_items c.args.out.now) c.departure_line-line.result c.loop-sent-test.true
+    (c.departure_line-line.ensures ∙ ap (λ (d : DepartureLine). written (departure_bytes d)) c.departure_of.ensures)
 
 pub returns : goal.returns
-returns c = c.loop-sent.invariant ∙ all_lines c.as-slice-all.result.now _ c.loop-sent.sent-index (vec_items c.args.out.now) c.as-slice-all.ensures c.loop-sent-test.false
+returns c = c.loop-sent.invariant ∙ all_lines c.as_slice-all.result.now _ c.loop-sent.sent-index (vec_items c.args.out.now) c.as_slice-all.ensures c.loop-sent-test.false

@@ -7,5 +7,5 @@ pub returns : goal.returns
 returns c =
     let fact =
     let n : ℕ = c.args.self.now.ports.number in
-    c.diagonal-grants.ensures ∙ ap (λ (d : ℕ). table_of (within n (diagonal_granted (holds c.args.requests) n d))) (mod-eq_of_lt c.args.self.now.place) in
+    c.diagonal_grants.ensures ∙ ap (λ (d : ℕ). table_of (within n (diagonal_granted (holds c.args.requests) n d))) (mod-eq_of_lt c.args.self.now.place) in
     search rules

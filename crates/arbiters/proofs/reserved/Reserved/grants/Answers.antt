@@ -7,7 +7,7 @@ pub returns : goal.returns
 returns c =
     let fact =
     slot-grants-is c.args.ports.number c.args.self.pairs c.args.requests
-    c.and.result c.square-square.result c.and-kept.result c.crossing.result c.minus-free.result c.diagonal-grants.result c.or.result
+    c.and.result c.square-square.result c.and-kept.result c.crossing.result c.minus-free.result c.diagonal_grants.result c.or.result
     c.and.ensures (c.square-square.ensures ∙ ap (λ (n : ℕ). table_of (λ i o. ltb i n && ltb o n)) c.number.ensures) c.and-kept.ensures
-    c.crossing.ensures c.minus-free.ensures c.diagonal-grants.ensures c.or.ensures in
+    c.crossing.ensures c.minus-free.ensures c.diagonal_grants.ensures c.or.ensures in
     search rules

@@ -9,6 +9,6 @@ returns c =
     let fact =
     let n : ℕ = c.args.self.now.ports.number in
     let t : ℕ = c.args.self.now.turn in
-    c.ripple-grants.ensures
+    c.ripple_grants.ensures
     ∙ ap (λ (a : ℕ). table_of (within n (ripple_granted (holds c.args.requests) n a (t % n)))) (mod-eq_of_lt (row_lt n t c.args.self.now.place)) in
     search rules

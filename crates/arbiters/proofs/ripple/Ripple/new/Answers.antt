@@ -2,6 +2,6 @@ use Rattle.std.proofs.Common.{arith}
 use Rattle.std.proofs.lemmas.Nat.{mul-lt}
 use Rattle.arbiters.proofs.ripple.Ripple.new.Goals as goal
 
-pub invariant-of-result : goal.invariant-of-result
-invariant-of-result c =
-    (mul-lt 0 0 c.in-ok-ports.ports.number c.in-ok-ports.ports.number (omega arith) (omega arith), tt)
+pub invariant_of-result : goal.invariant_of-result
+invariant_of-result c =
+    (mul-lt 0 0 c.in_ok-ports.ports.number c.in_ok-ports.ports.number (omega arith) (omega arith), tt)

@@ -4,8 +4,8 @@ use Rattle.law.specs.Calls.{wrong}
 use Rattle.switch.specs.Seen.{grant_of}
 use Rattle.calls.proofs.sending.Sending.close.Goals as goal
 
-pub invariant-of-result : goal.invariant-of-result
-invariant-of-result c =
+pub invariant_of-result : goal.invariant_of-result
+invariant_of-result c =
     let e = c.in-Err.ensures in
     (ap₂ (λ w t. wrong w Sending (grant_of t)) e.1 e.0 ∙ c.args.self.fits, tt)
 

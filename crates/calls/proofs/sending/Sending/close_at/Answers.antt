@@ -4,6 +4,6 @@ use Rattle.law.specs.Calls.{wrong}
 use Rattle.switch.specs.Seen.{view, grant_of}
 use Rattle.calls.proofs.sending.Sending.close_at.Goals as goal
 
-pub invariant-of-result : goal.invariant-of-result
-invariant-of-result c =
+pub invariant_of-result : goal.invariant_of-result
+invariant_of-result c =
     (ap (λ t. wrong (view c.args.self.two.switch) Sending (grant_of t)) c.in-Err.ensures.0 ∙ c.args.self.fits, tt)

@@ -4,7 +4,7 @@ use Rattle.switch.specs.Seen.{view, grant_of}
 use Rattle.calls.proofs.Keeping.{Parting, departs, outputs-pairs}
 use Rattle.calls.proofs.sending.Sending.depart.Goals as goal
 
-pub invariant-of-self : goal.invariant-of-self
-invariant-of-self c =
+pub invariant_of-self : goal.invariant_of-self
+invariant_of-self c =
     let s = c.args.self.now in
     ((subst (λ o. Parting s.two.noted (view s.two.switch) o) c.depart.ensures (departs s.two.noted (view s.two.switch) s.two.kept (record { cells = c.args.blocks.now; notes = c.args.notes.now; bytes = c.args.bytes.now }) (grant_of s.ticket) (outputs-pairs s.two.switch.ports s.two.switch.grants))).fits Sending (grant_of s.ticket) ∙ s.fits, tt)

@@ -6,8 +6,8 @@ use Rattle.calls.proofs.Keeping.{Steady, Parting, departs, takes, outputs-pairs}
 use Rattle.calls.proofs.Ending.{Nearer, depart-nearer, nearer-ok, nearer-err, room-nearer}
 use Rattle.calls.proofs.sending.Sending.send.Goals as goal
 
-pub invariant-of-self-else-is-err : goal.invariant-of-self-else-is-err
-invariant-of-self-else-is-err c =
+pub invariant_of-self-else-is_err : goal.invariant_of-self-else-is_err
+invariant_of-self-else-is_err c =
     let s = c.args.self.now in (
       (subst (λ o. Parting s.two.noted (view s.two.switch) o) c.depart.ensures
           (departs s.two.noted (view s.two.switch) s.two.kept (record { cells = c.args.blocks.now; notes = c.args.notes.now; bytes = c.args.bytes.now }) (grant_of s.ticket) (outputs-pairs s.two.switch.ports s.two.switch.grants))
@@ -15,11 +15,11 @@ invariant-of-self-else-is-err c =
       tt,
     )
 
-pub invariant-of-self : goal.invariant-of-self
-invariant-of-self c =
+pub invariant_of-self : goal.invariant_of-self
+invariant_of-self c =
     let s = c.args.self.now in
     let u = c.depart.new.self in (
-      (subst (λ o. Steady u.noted (view u.switch) o) (c.make-room.ensures [] []) (takes u.noted (view u.switch) u.kept (record { cells = []; notes = c.depart.new.notes; bytes = [] }) u.noted)
+      (subst (λ o. Steady u.noted (view u.switch) o) (c.make_room.ensures [] []) (takes u.noted (view u.switch) u.kept (record { cells = []; notes = c.depart.new.notes; bytes = [] }) u.noted)
           ).fits Sending (grant_of s.ticket)
           ∙ (subst (λ o. Parting s.two.noted (view s.two.switch) o) c.depart.ensures
           (departs s.two.noted (view s.two.switch) s.two.kept (record { cells = c.args.blocks.now; notes = c.args.notes.now; bytes = c.args.bytes.now }) (grant_of s.ticket) (outputs-pairs s.two.switch.ports s.two.switch.grants))
@@ -27,18 +27,18 @@ invariant-of-self c =
       tt,
     )
 
-pub returns-else-is-err : goal.returns-else-is-err
-returns-else-is-err c =
+pub returns-else-is_err : goal.returns-else-is_err
+returns-else-is_err c =
     let s = c.args.self.now in
     let m : Memory = record { cells = c.args.blocks.now; notes = c.args.notes.now; bytes = c.args.bytes.now } in
     let cells : length c.args.blocks.now ≡ s.two.switch.ports * 16 = omega (arith, c.told-blocks, s.two.kept.0) in
     let notes : length c.args.notes.now ≡ 64 = omega (arith, c.told-notes) in
     let bytes : length c.args.bytes.now ≡ s.two.switch.ports * 53 = omega (arith, c.told-bytes, s.two.kept.0) in
-    nearer-ok (view s.two.switch) (view c.depart.new.self.switch) c.depart.result (sym c.if-is-err.ensures.value)
+    nearer-ok (view s.two.switch) (view c.depart.new.self.switch) c.depart.result (sym c.if-is_err.ensures.value)
     (subst (λ o. Nearer (view s.two.switch) o.view o.reply) c.depart.ensures (depart-nearer (view s.two.switch) m (grant_of s.ticket) cells notes bytes s.fits c.requires))
 
-pub returns-then-is-err : goal.returns-then-is-err
-returns-then-is-err c =
+pub returns-then-is_err : goal.returns-then-is_err
+returns-then-is_err c =
     let s = c.args.self.now in
     let u = c.depart.new.self in
     let m : Memory = record { cells = c.args.blocks.now; notes = c.args.notes.now; bytes = c.args.bytes.now } in
@@ -46,7 +46,7 @@ returns-then-is-err c =
     let notes : length c.args.notes.now ≡ 64 = omega (arith, c.told-notes) in
     let bytes : length c.args.bytes.now ≡ s.two.switch.ports * 53 = omega (arith, c.told-bytes, s.two.kept.0) in
     let later : length c.depart.new.notes ≡ 64 = omega (arith, c.depart.auto.notes, c.told-notes) in
-    room-nearer (view s.two.switch) (view u.switch) (view c.make-room.new.self.switch) u.noted (record { cells = []; notes = c.depart.new.notes; bytes = [] }) c.make-room.result u.kept later
-    (c.make-room.ensures [] [])
-    (nearer-err (view s.two.switch) (view u.switch) c.depart.result (sym c.if-is-err.ensures.value)
+    room-nearer (view s.two.switch) (view u.switch) (view c.make_room.new.self.switch) u.noted (record { cells = []; notes = c.depart.new.notes; bytes = [] }) c.make_room.result u.kept later
+    (c.make_room.ensures [] [])
+    (nearer-err (view s.two.switch) (view u.switch) c.depart.result (sym c.if-is_err.ensures.value)
     (subst (λ o. Nearer (view s.two.switch) o.view o.reply) c.depart.ensures (depart-nearer (view s.two.switch) m (grant_of s.ticket) cells notes bytes s.fits c.requires)))

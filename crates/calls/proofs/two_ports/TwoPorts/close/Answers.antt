@@ -4,8 +4,8 @@ use Rattle.calls.proofs.Keeping.{nothing, Held, closes}
 use Rattle.calls.proofs.Ending.{closing}
 use Rattle.calls.proofs.two_ports.TwoPorts.close.Goals as goal
 
-pub invariant-of-self : goal.invariant-of-self
-invariant-of-self c =
+pub invariant_of-self : goal.invariant_of-self
+invariant_of-self c =
     let s = c.args.self.now in
     ((subst (λ o. Held s.noted o) (c.close.ensures.done nothing) (closes s.noted (view s.switch) s.kept nothing (grant_of c.args.ticket))).kept, tt)
 

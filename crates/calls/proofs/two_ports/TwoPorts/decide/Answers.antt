@@ -5,8 +5,8 @@ use Rattle.calls.specs.Kept.{Fits}
 use Rattle.calls.proofs.Keeping.{nothing, Held, decides, decide-fits}
 use Rattle.calls.proofs.two_ports.TwoPorts.decide.Goals as goal
 
-pub invariant-of-self : goal.invariant-of-self
-invariant-of-self c =
+pub invariant_of-self : goal.invariant_of-self
+invariant_of-self c =
     let s = c.args.self.now in
     ((subst (λ o. Held s.noted o) (c.decide.ensures.done nothing) (decides s.noted (view s.switch) s.kept (meaning ghosts.ports ghosts.bound ghosts.wait ghosts.answer ghosts.after) nothing (arrival_of c.args.ticket))).kept, tt)
 

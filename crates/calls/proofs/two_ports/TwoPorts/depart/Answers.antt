@@ -4,14 +4,14 @@ use Rattle.law.proofs.Pairs.{outputs-pairs}
 use Rattle.calls.proofs.Keeping.{Left, Parting, departs}
 use Rattle.calls.proofs.two_ports.TwoPorts.depart.Goals as goal
 
-pub invariant-of-self : goal.invariant-of-self
-invariant-of-self c =
+pub invariant_of-self : goal.invariant_of-self
+invariant_of-self c =
     let s = c.args.self.now in
     let all = departs s.noted (view s.switch) s.kept (record { cells = c.args.blocks.now; notes = c.args.notes.now; bytes = c.args.bytes.now }) (grant_of c.args.ticket.now) (outputs-pairs s.switch.ports s.switch.grants) in
-    (subst (λ r. Left s.noted (view c.depart.new.self) r) c.in-err-departed.was (subst (λ o. Parting s.noted (view s.switch) o) c.depart.ensures all).kept, tt)
+    (subst (λ r. Left s.noted (view c.depart.new.self) r) c.in_err-departed.was (subst (λ o. Parting s.noted (view s.switch) o) c.depart.ensures all).kept, tt)
 
-pub invariant-of-self-2 : goal.invariant-of-self-2
-invariant-of-self-2 c =
+pub invariant_of-self-2 : goal.invariant_of-self-2
+invariant_of-self-2 c =
     let s = c.args.self.now in
     let all = departs s.noted (view s.switch) s.kept (record { cells = c.args.blocks.now; notes = c.args.notes.now; bytes = c.args.bytes.now }) (grant_of c.args.ticket.now) (outputs-pairs s.switch.ports s.switch.grants) in
-    (subst (λ r. Left s.noted (view c.depart.new.self) r) c.in-ok-departed.was (subst (λ o. Parting s.noted (view s.switch) o) c.depart.ensures all).kept, tt)
+    (subst (λ r. Left s.noted (view c.depart.new.self) r) c.in_ok-departed.was (subst (λ o. Parting s.noted (view s.switch) o) c.depart.ensures all).kept, tt)

@@ -3,7 +3,7 @@ use Rattle.switch.specs.Seen.{view}
 use Rattle.calls.proofs.Keeping.{nothing, Steady, sets}
 use Rattle.calls.proofs.two_ports.TwoPorts.set_route.Goals as goal
 
-pub invariant-of-self : goal.invariant-of-self
-invariant-of-self c =
+pub invariant_of-self : goal.invariant_of-self
+invariant_of-self c =
     let s = c.args.self.now in
-    ((subst (λ o. Steady s.noted (view s.switch) o) (c.set-route.ensures nothing) (sets s.noted (view s.switch) s.kept nothing c.args.input c.args.vci c.args.output c.args.new-vci)).kept, tt)
+    ((subst (λ o. Steady s.noted (view s.switch) o) (c.set_route.ensures nothing) (sets s.noted (view s.switch) s.kept nothing c.args.input c.args.vci c.args.output c.args.new_vci)).kept, tt)

@@ -3,7 +3,7 @@ use Rattle.switch.specs.Seen.{view}
 use Rattle.calls.proofs.Keeping.{Steady, takes}
 use Rattle.calls.proofs.two_ports.TwoPorts.take_note.Goals as goal
 
-pub invariant-of-self : goal.invariant-of-self
-invariant-of-self c =
+pub invariant_of-self : goal.invariant_of-self
+invariant_of-self c =
     let s = c.args.self.now in
-    ((subst (λ o. Steady s.noted (view s.switch) o) (c.take-note.ensures [] []) (takes s.noted (view s.switch) s.kept (record { cells = []; notes = c.args.notes.now; bytes = [] }) c.args.output)).kept, tt)
+    ((subst (λ o. Steady s.noted (view s.switch) o) (c.take_note.ensures [] []) (takes s.noted (view s.switch) s.kept (record { cells = []; notes = c.args.notes.now; bytes = [] }) c.args.output)).kept, tt)

@@ -12,5 +12,5 @@ returns-then-self-eq0 c =
 pub returns : goal.returns
 returns c =
     let v = reading c.args.self in
-    let e : Some (record { number = c.args.self.number; frame = c.frame-of.result }) ≡ last v = search rules in
+    let e : Some (record { number = c.args.self.number; frame = c.frame_of.result }) ≡ last v = search rules in
     record { result = e; answers = sym (ap as_list e ∙ stop v) }

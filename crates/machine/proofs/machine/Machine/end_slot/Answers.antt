@@ -9,29 +9,29 @@ use Rattle.machine.proofs.Ending.{Deciding, Decided, decided}
 use Rattle.machine.proofs.Telling.{taken-up, ended, ends}
 use Rattle.machine.proofs.machine.Machine.end_slot.Goals as goal
 
-pub invariant-of-self : goal.invariant-of-self
-invariant-of-self g c =
+pub invariant_of-self : goal.invariant_of-self
+invariant_of-self g c =
     let a = meaning g.A.Arbiter.ports g.A.Arbiter.bound g.A.Arbiter.wait g.A.Arbiter.answer g.A.Arbiter.after in
-    let s = c.take-up.new.self in
+    let s = c.take_up.new.self in
     let v = view s.switch in
     let u = standing c.args.self.now in
-    let held : ticket_of s.ticket ≡ None = ap (λ (x : Told _ Ticket). x.standing.ticket) c.in-ok-ticket.ensures.answer ∙ taken-up u u.ticket in
-    let holds = subst (λ (o : Outcome _ Ticket). Holds v o) (c.decide.ensures.done nothing) (decides v nothing a (arrival_of c.in-ok-ticket.ticket)) in
+    let held : ticket_of s.ticket ≡ None = ap (λ (x : Told _ Ticket). x.standing.ticket) c.in_ok-ticket.ensures.answer ∙ taken-up u u.ticket in
+    let holds = subst (λ (o : Outcome _ Ticket). Holds v o) (c.decide.ensures.done nothing) (decides v nothing a (arrival_of c.in_ok-ticket.ticket)) in
     (s.few, (holds.ports ∙ s.counted, (unfit-none (view c.decide.new.self) s.ticket held, (subst (λ (q : Queues). 1 ≤ length q.free) (sym holds.notes) s.room, (s.cells, (s.kept, (s.sized, tt)))))))
 
 pub finish-requires : goal.finish-requires
 finish-requires g c =
     let a = meaning g.A.Arbiter.ports g.A.Arbiter.bound g.A.Arbiter.wait g.A.Arbiter.answer g.A.Arbiter.after in
-    let s = c.take-up.new.self in
+    let s = c.take_up.new.self in
     let v = view s.switch in
     let w = view c.decide.new.self in
-    let t = arrival_of c.in-ok-ticket.ticket in
+    let t = arrival_of c.in_ok-ticket.ticket in
     let u = standing c.args.self.now in
-    let held : ticket_of s.ticket ≡ None = ap (λ (x : Told _ Ticket). x.standing.ticket) c.in-ok-ticket.ensures.answer ∙ taken-up u u.ticket in
+    let held : ticket_of s.ticket ≡ None = ap (λ (x : Told _ Ticket). x.standing.ticket) c.in_ok-ticket.ensures.answer ∙ taken-up u u.ticket in
     let holds = subst (λ (o : Outcome _ Ticket). Holds v o) (c.decide.ensures.done nothing) (decides v nothing a t) in
     let decision : Decided v.ports w (grant_of c.in-Ok.grants) =
     subst (λ (o : Outcome _ Ticket). Deciding v.ports o.reply o.view) (c.in-Ok.ensures.done nothing)
-    (decided v nothing a t c.in-ok-ticket.ensures.fits (g.met.A.Arbiter.apart s.switch.arbiter (requests v))) in (
+    (decided v nothing a t c.in_ok-ticket.ensures.fits (g.met.A.Arbiter.apart s.switch.arbiter (requests v))) in (
       record { fits = decision.fits; ports = holds.ports ∙ s.counted; eight = s.few; room = subst (λ (q : Queues). 1 ≤ length q.free) (sym holds.notes) s.room },
       record { held = held; counted = decision.counted; few = omega (arith, decision.few, s.counted, s.few) },
     )
@@ -39,19 +39,19 @@ finish-requires g c =
 pub unreachable-requires : goal.unreachable-requires
 unreachable-requires g c =
     let a = meaning g.A.Arbiter.ports g.A.Arbiter.bound g.A.Arbiter.wait g.A.Arbiter.answer g.A.Arbiter.after in
-    let s = c.take-up.new.self in
+    let s = c.take_up.new.self in
     let v = view s.switch in
     subst (λ (o : Outcome _ Ticket). Deciding v.ports o.reply o.view) (c.in-Err.ensures.done nothing)
-    (decided v nothing a (arrival_of c.in-ok-ticket.ticket) c.in-ok-ticket.ensures.fits (g.met.A.Arbiter.apart s.switch.arbiter (requests v)))
+    (decided v nothing a (arrival_of c.in_ok-ticket.ticket) c.in_ok-ticket.ensures.fits (g.met.A.Arbiter.apart s.switch.arbiter (requests v)))
 
 pub returns : goal.returns
 returns g c =
     let a = meaning g.A.Arbiter.ports g.A.Arbiter.bound g.A.Arbiter.wait g.A.Arbiter.answer g.A.Arbiter.after in
-    let s = c.take-up.new.self in
+    let s = c.take_up.new.self in
     let u = standing c.args.self.now in
-    let held : ticket_of s.ticket ≡ None = ap (λ (x : Told _ Ticket). x.standing.ticket) c.in-ok-ticket.ensures.answer ∙ taken-up u u.ticket in
+    let held : ticket_of s.ticket ≡ None = ap (λ (x : Told _ Ticket). x.standing.ticket) c.in_ok-ticket.ensures.answer ∙ taken-up u u.ticket in
     record {
-      answer = ended a u (standing s) (view c.decide.new.self) (arrival_of c.in-ok-ticket.ticket) (grant_of c.in-Ok.grants) _
-          c.in-ok-ticket.ensures.answer held (c.in-Ok.ensures.done (memory_of s)) c.finish.ensures;
+      answer = ended a u (standing s) (view c.decide.new.self) (arrival_of c.in_ok-ticket.ticket) (grant_of c.in-Ok.grants) _
+          c.in_ok-ticket.ensures.answer held (c.in-Ok.ensures.done (memory_of s)) c.finish.ensures;
       ends = ends u.ticket (ended_of c.finish.result);
     }

@@ -9,19 +9,19 @@ use Rattle.machine.proofs.Keeping.{nothing, Holds, closes, unfit-none}
 use Rattle.machine.proofs.Ending.{Closing, closed}
 use Rattle.machine.proofs.machine.Machine.finish.Goals as goal
 
-pub invariant-of-self : goal.invariant-of-self
-invariant-of-self g c =
+pub invariant_of-self : goal.invariant_of-self
+invariant_of-self g c =
     let s = c.args.self.now in
-    let sent = c.send-all-departures.ensures.sent in
+    let sent = c.send_all-departures.ensures.sent in
     let can = sent.can s.ports c.requires.0 in
-    let w = view c.send-all-departures.new.switch in
+    let w = view c.send_all-departures.new.switch in
     let holds = subst (λ (o : Outcome _ SlotClosed). Holds w o) (c.close.ensures.done nothing) (closes w nothing (grant_of c.args.grants)) in
-    (s.few, (holds.ports ∙ can.ports, (unfit-none (view c.close.new.self) s.ticket c.requires.1.held, (subst (λ (q : Queues). 1 ≤ length q.free) (sym holds.notes) can.room, (s.cells, (c.send-all-departures.ensures.sized.0, (c.send-all-departures.ensures.sized.1, tt)))))))
+    (s.few, (holds.ports ∙ can.ports, (unfit-none (view c.close.new.self) s.ticket c.requires.1.held, (subst (λ (q : Queues). 1 ≤ length q.free) (sym holds.notes) can.room, (s.cells, (c.send_all-departures.ensures.sized.0, (c.send_all-departures.ensures.sized.1, tt)))))))
 
 pub unreachable-requires : goal.unreachable-requires
 unreachable-requires g c =
     let s = c.args.self.now in
-    let sent = c.send-all-departures.ensures.sent in
+    let sent = c.send_all-departures.ensures.sent in
     let can = sent.can s.ports c.requires.0 in
-    let w = view c.send-all-departures.new.switch in
+    let w = view c.send_all-departures.new.switch in
     subst (λ (o : Outcome _ SlotClosed). Closing o.reply) (c.in-Err.ensures.done nothing) (closed w nothing (grant_of c.args.grants) can.fits sent.none_left)

@@ -7,6 +7,6 @@ pub returns : goal.returns
 returns g c =
     let a = meaning g.A.Arbiter.ports g.A.Arbiter.bound g.A.Arbiter.wait g.A.Arbiter.answer g.A.Arbiter.after in
     record {
-      start = started a c.args.arbiter c.args.mark c.args.first _ (view c.new.result) _ _ _ c.new.ensures.made (c.number-ports.ensures ∙ c.ports.ensures) c.empty-blocks.ensures c.empty-notes.ensures c.empty-bytes.ensures;
+      start = started a c.args.arbiter c.args.mark c.args.first _ (view c.new.result) _ _ _ c.new.ensures.made (c.number-ports.ensures ∙ c.ports.ensures) c.empty_blocks.ensures c.empty_notes.ensures c.empty_bytes.ensures;
       law = c.new.ensures.law;
     }

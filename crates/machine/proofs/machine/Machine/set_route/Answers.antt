@@ -4,10 +4,10 @@ use Rattle.switch.specs.Seen.{view}
 use Rattle.machine.proofs.Keeping.{nothing, Steady, unfit-same, sets}
 use Rattle.machine.proofs.machine.Machine.set_route.Goals as goal
 
-pub invariant-of-self : goal.invariant-of-self
-invariant-of-self g c =
+pub invariant_of-self : goal.invariant_of-self
+invariant_of-self g c =
     let s = c.args.self.now in
     let v = view s.switch in
-    let w = view c.set-route.new.self in
-    let steady = subst (λ o. Steady v o) (c.set-route.ensures nothing) (sets v nothing c.args.input c.args.vci c.args.output c.args.new-vci) in
+    let w = view c.set_route.new.self in
+    let steady = subst (λ o. Steady v o) (c.set_route.ensures nothing) (sets v nothing c.args.input c.args.vci c.args.output c.args.new_vci) in
     (s.few, (steady.ports ∙ s.counted, (unfit-same v w steady.fits s.ticket s.fits, (subst (λ (q : Queues). 1 ≤ length q.free) (sym steady.notes) s.room, (s.cells, (s.kept, (s.sized, tt)))))))

@@ -10,8 +10,8 @@ use Rattle.machine.proofs.Keeping.{nothing, Holds, opens, open-fits}
 use Rattle.machine.proofs.Telling.{opened}
 use Rattle.machine.proofs.machine.Machine.take_up.Goals as goal
 
-pub invariant-of-self-in-None : goal.invariant-of-self-in-None
-invariant-of-self-in-None g c =
+pub invariant_of-self-in-None : goal.invariant_of-self-in-None
+invariant_of-self-in-None g c =
     let s = c.args.self.now in
     let v = view s.switch in
     let w = view c.open.new.self in

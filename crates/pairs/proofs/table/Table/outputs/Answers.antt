@@ -18,7 +18,7 @@ returns-then-input-ge-SIDE c =
 pub returns : goal.returns
 returns c =
     let x : ℕ = c.args.self.bits / 2 ^ (c.args.input * 8) in
-    let byte = c.from-byte.ensures in
+    let byte = c.from_byte.ensures in
     let fact =
     ports_of-ext (bit (bit_and x 255)) (holds c.args.self c.args.input)
     (λ o h. ap (λ (y : ℕ). bit y o) (and_mask x 8) ∙ bit-mod x 8 o h ∙ bit-shr c.args.self.bits (c.args.input * 8) o

@@ -7,4 +7,4 @@ use Rattle.player.proofs.playing.frames.end_open.Goals as goal
 pub returns : goal.returns
 returns g c =
     let a = meaning g.A.Arbiter.ports g.A.Arbiter.bound g.A.Arbiter.wait g.A.Arbiter.answer g.A.Arbiter.after in
-    written_as c.write-ended.result _ (vec_items c.args.out.now) _ _ (last-is a (standing c.args.machine.now) _ (ended_of c.in-Ok.ended) (sym c.slot-is-open.ensures ∙ c.if-not-slot-is-open.false) c.in-Ok.ensures.answer) c.write-ended.ensures
+    written_as c.write_ended.result _ (vec_items c.args.out.now) _ _ (last-is a (standing c.args.machine.now) _ (ended_of c.in-Ok.ended) (sym c.slot_is_open.ensures ∙ c.if-not-slot_is_open.false) c.in-Ok.ensures.answer) c.write_ended.ensures

@@ -5,19 +5,19 @@ use Rattle.queues.proofs.Following.{blocks-none}
 use Rattle.queues.proofs.Moving.{step, ready}
 use Rattle.queues.proofs.links.Links.move_head.Goals as goal
 
-pub move-head-requires : goal.move-head-requires
-move-head-requires g c = (
+pub move_head-requires : goal.move_head-requires
+move_head-requires g c = (
   search rules,
   ready c.args.self.now c.args.from c.args.to c.requires.0 c.requires.1.0 c.requires.1.1 (omega arith)
       (omega (arith, c.if-self-from-eq0.false)),
 )
 
-pub invariant-of-self : goal.invariant-of-self
-invariant-of-self g c =
+pub invariant_of-self : goal.invariant_of-self
+invariant_of-self g c =
     let l = c.args.self.now in
     let s = step l c.args.from c.args.to c.requires.0 c.requires.1.0 c.requires.1.1 (omega (arith, c.if-self-from-eq0.false))
-    (omega arith) (omega arith) (omega arith) (omega arith) c.move-head.new.self c.move-head.result
-    c.move-head.ensures.lists c.move-head.ensures.block in
+    (omega arith) (omega arith) (omega arith) (omega arith) c.move_head.new.self c.move_head.result
+    c.move_head.ensures.lists c.move_head.ensures.block in
     (l.addressed, (s.inside, (s.apart, (s.covered, (s.ended, (s.whole, tt))))))
 
 pub returns-then-self-from-eq0 : goal.returns-then-self-from-eq0

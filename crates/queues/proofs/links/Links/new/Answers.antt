@@ -15,12 +15,12 @@ loop-i-preserved g c = (
   fill_by_more (λ k. k + 1) c.loop-i.next c.loop-i.i 0 (omega arith) c.loop-i.invariant.1,
 )
 
-pub invariant-of-result : goal.invariant-of-result
-invariant-of-result g c =
+pub invariant_of-result : goal.invariant_of-result
+invariant_of-result g c =
     let n = c.loop-i.next in
     let u : (k : ℕ) → k < g.row.B → get_or n k 0 ≡ k + 1 = λ k l. c.loop-i.invariant.1 k (omega arith) in
     let f : g.row.B * 8 < 2 ^ 64 = search rules in
-    (f, (inside-start g.row.B n u, (apart-start g.row.B n u, (covered_start g.row.B n u, (ended-start g.row.B n u _ c.saturating-sub.ensures, (whole-start g.row.B, tt))))))
+    (f, (inside-start g.row.B n u, (apart-start g.row.B n u, (covered_start g.row.B n u, (ended-start g.row.B n u _ c.saturating_sub.ensures, (whole-start g.row.B, tt))))))
 
 pub returns : goal.returns
 returns g c =

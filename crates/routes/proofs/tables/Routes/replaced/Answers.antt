@@ -2,8 +2,8 @@ use Rattle.std.proofs.Common.{rules}
 use Rattle.routes.proofs.Steps.{Sound, replaced-kept, replaced-map}
 use Rattle.routes.proofs.tables.Routes.replaced.Goals as goal
 
-pub invariant-of-result : goal.invariant-of-result
-invariant-of-result c =
+pub invariant_of-result : goal.invariant_of-result
+invariant_of-result c =
     let self = c.args.self in
     let ok : Sound self.routes self.counts = record { places = search rules; inputs = search rules; room = self.room; distinct = self.distinct; outputs = self.outputs; counted = self.counted } in
     let e = replaced-kept self.routes self.counts c.args.input c.args.k c.args.route ok (search rules) (search rules) (search rules) (search rules) (search rules) in

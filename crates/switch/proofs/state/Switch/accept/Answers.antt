@@ -10,8 +10,8 @@ use Rattle.switch.proofs.PortSets.{inside-with}
 use Rattle.switch.proofs.Arrivals.{stores, longer}
 use Rattle.switch.proofs.state.Switch.accept.Goals as goal
 
-pub invariant-of-self : goal.invariant-of-self
-invariant-of-self g c =
+pub invariant_of-self : goal.invariant_of-self
+invariant_of-self g c =
     let s = c.args.self.now in (
       s.numbered,
       (
@@ -32,8 +32,8 @@ invariant-of-self g c =
       ),
     )
 
-pub invariant-of-self-2 : goal.invariant-of-self-2
-invariant-of-self-2 g c =
+pub invariant_of-self-2 : goal.invariant_of-self-2
+invariant_of-self-2 g c =
     let s = c.args.self.now in (
       s.numbered,
       (
@@ -65,5 +65,5 @@ returns g c notes bytes =
     let few : p < 8 = omega (arith, s.small, c.requires.0) in
     let known : v.tables.route p (vci_of x) ≡ Some r = sym (c.in-Some.ensures.entry ∙ ap (λ (n : ℕ). v.tables.route p n) (c.vci.ensures ∙ ap vci_of c.whole-cell.ensures)) in
     ap (λ (o : Option Route). routed v m p x o) known
-    ∙ stores v m p x r (cells_of c.store.new.links) c.store.new.blocks c.in-ok-ahead.ahead (inside c.with-self.result) (inside-with s.used c.with-self.result p few c.with-self.ensures)
-    (c.in-ok-ahead.ensures ∙ ap (λ (y : List ℕ). storing v.cells m.cells p r.output (record { cell = y; new_vci = r.new_vci }) (v.cells p).free) c.whole-cell.ensures)
+    ∙ stores v m p x r (cells_of c.store.new.links) c.store.new.blocks c.in_ok-ahead.ahead (inside c.with-self.result) (inside-with s.used c.with-self.result p few c.with-self.ensures)
+    (c.in_ok-ahead.ensures ∙ ap (λ (y : List ℕ). storing v.cells m.cells p r.output (record { cell = y; new_vci = r.new_vci }) (v.cells p).free) c.whole-cell.ensures)

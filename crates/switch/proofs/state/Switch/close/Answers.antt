@@ -29,6 +29,6 @@ returns g c =
     let v = view s in
     let t = grant_of c.args.ticket in
     record {
-      done = λ m. closes v m t (not-true (wrong v Sending t) (sym c.fits.ensures ∙ c.if-not-fits.false)) (pairs-none s.ports s.grants c.in-default.ensures);
+      done = λ m. closes v m t (not-true (wrong v Sending t) (sym c.fits.ensures ∙ c.if-not-fits.false)) (pairs-none s.ports s.grants c.in_default.ensures);
       back = tt;
     }

@@ -17,8 +17,8 @@ count-self-requires g c =
       within-granted a (view s) s.arbiter c.requests-requests.result c.decide-grants.result (g.met.A.Arbiter.requested s.arbiter c.requests-requests.result) c.requests-requests.ensures c.decide-grants.ensures.answer,
     )
 
-pub invariant-of-self : goal.invariant-of-self
-invariant-of-self g c =
+pub invariant_of-self : goal.invariant_of-self
+invariant_of-self g c =
     let s = c.args.self.now in
     let a = meaning g.A.Arbiter.ports g.A.Arbiter.bound g.A.Arbiter.wait g.A.Arbiter.answer g.A.Arbiter.after in
     let law = g.met.A.Arbiter.requested s.arbiter c.requests-requests.result in (

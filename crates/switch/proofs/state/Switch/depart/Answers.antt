@@ -13,17 +13,17 @@ use Rattle.switch.proofs.Slots.{of-slot}
 use Rattle.switch.proofs.Departures.{no-grant, notes-full, departs, notes-join, sent-bytes, ready-sent, nil-of, cons_of}
 use Rattle.switch.proofs.state.Switch.depart.Goals as goal
 
-pub returns-in-default : goal.returns-in-default
-returns-in-default g c =
+pub returns-in_default : goal.returns-in_default
+returns-in_default g c =
     let s = c.args.self.now in
     let v = view s in
     let t = grant_of c.args.ticket.now in
     let m : Memory = record { cells = c.args.blocks.now; notes = c.args.notes.now; bytes = c.args.bytes.now } in
-    no-grant v m t c.if-blocks-ports.false c.if-notes-ne-NOTE-BLOCKS.false c.if-bytes-ports.false (not-true (wrong v Sending t) (sym c.fits.ensures ∙ c.if-not-fits.false))
-    (pairs-none s.ports s.grants c.in-default.ensures)
+    no-grant v m t c.if-blocks-ports.false c.if-notes-ne-NOTE_BLOCKS.false c.if-bytes-ports.false (not-true (wrong v Sending t) (sym c.fits.ensures ∙ c.if-not-fits.false))
+    (pairs-none s.ports s.grants c.in_default.ensures)
 
-pub returns-then-free-blocks-eq0 : goal.returns-then-free-blocks-eq0
-returns-then-free-blocks-eq0 g c =
+pub returns-then-free_blocks-eq0 : goal.returns-then-free_blocks-eq0
+returns-then-free_blocks-eq0 g c =
     let s = c.args.self.now in
     let v = view s in
     let t = grant_of c.args.ticket.now in
@@ -32,11 +32,11 @@ returns-then-free-blocks-eq0 g c =
     let f = c.in-Some.ensures in
     let w = s.within x f.0 in
     let u = table_of (dropped (holds s.grants) x.0 x.1) in
-    notes-full v m t c.if-blocks-ports.false c.if-notes-ne-NOTE-BLOCKS.false c.if-bytes-ports.false (not-true (wrong v Sending t) (sym c.fits.ensures ∙ c.if-not-fits.false))
-    x (pairs s.ports u) (pairs_first s.ports s.grants u x s.small w.0 w.1 f refl) (nil-of (Queued.view s.notes).free (sym c.free-blocks.ensures ∙ c.if-free-blocks-eq0.true))
+    notes-full v m t c.if-blocks-ports.false c.if-notes-ne-NOTE_BLOCKS.false c.if-bytes-ports.false (not-true (wrong v Sending t) (sym c.fits.ensures ∙ c.if-not-fits.false))
+    x (pairs s.ports u) (pairs_first s.ports s.grants u x s.small w.0 w.1 f refl) (nil-of (Queued.view s.notes).free (sym c.free_blocks.ensures ∙ c.if-free_blocks-eq0.true))
 
-pub invariant-of-self : goal.invariant-of-self
-invariant-of-self g c =
+pub invariant_of-self : goal.invariant_of-self
+invariant_of-self g c =
     let s = c.args.self.now in
     let x : ℕ × ℕ = (c.in-Some.input, c.in-Some.output) in
     let f = c.in-Some.ensures in (
@@ -65,12 +65,12 @@ returns g c =
     let lo : x.1 < 8 = omega (arith, w.1, s.small) in
     let fit = not-true (wrong v Sending t) (sym c.fits.ensures ∙ c.if-not-fits.false) in
     let free = (Queued.view s.notes).free in
-    let some = cons_of free (λ e. c.if-free-blocks-eq0.false (c.free-blocks.ensures ∙ e)) in
+    let some = cons_of free (λ e. c.if-free_blocks-eq0.false (c.free_blocks.ensures ∙ e)) in
     let b = c.fetch-block.result in
-    let joins = notes-join s.notes c.args.notes.now c.join.new.blocks x.1 _ c.join.result (Queued.view c.join.new.self) (get_or free 0 0) (drop 1 free) lo c.if-notes-ne-NOTE-BLOCKS.false some c.join.ensures in
-    departs v m t c.if-blocks-ports.false c.if-notes-ne-NOTE-BLOCKS.false c.if-bytes-ports.false fit
+    let joins = notes-join s.notes c.args.notes.now c.join.new.blocks x.1 _ c.join.result (Queued.view c.join.new.self) (get_or free 0 0) (drop 1 free) lo c.if-notes-ne-NOTE_BLOCKS.false some c.join.ensures in
+    departs v m t c.if-blocks-ports.false c.if-notes-ne-NOTE_BLOCKS.false c.if-bytes-ports.false fit
     x (pairs s.ports c.without-self.result) (pairs_first s.ports s.grants c.without-self.result x s.small w.0 w.1 f c.without-self.ensures)
-    (get_or free 0 0) (drop 1 free) some b t.slot (inside c.with-self.result) (cells_of c.fetch-block.new.links) (Queued.view c.join.new.self) c.join.new.blocks c.send-into.new.slot-bytes
+    (get_or free 0 0) (drop 1 free) some b t.slot (inside c.with-self.result) (cells_of c.fetch-block.new.links) (Queued.view c.join.new.self) c.join.new.blocks c.send_into.new.slot-bytes
     c.fetch-block.ensures.block (of-slot v Sending t fit) (inside-with s.sent c.with-self.result x.1 lo c.with-self.ensures) c.fetch-block.ensures.queues joins.0
     (joins.1 ∙ ap (λ (n : ℕ). set c.args.notes.now (get_or free 0 0) (record { slot = t.slot; input = x.0; came = n; left = b.new_vci })) c.vci.ensures)
-    (sent-bytes c.args.bytes.now c.send-into.new.slot-bytes x.1 s.ports b w.1 c.if-bytes-ports.false c.send-into.ensures.bytes)
+    (sent-bytes c.args.bytes.now c.send_into.new.slot-bytes x.1 s.ports b w.1 c.if-bytes-ports.false c.send_into.ensures.bytes)

@@ -22,8 +22,8 @@ returns g c =
     (c.number-ports.ensures ∙ c.ports.ensures) c.empty.ensures c.empty-3.ensures c.empty-2.ensures c.new.ensures c.new-2.ensures c.new-3.ensures in
     record { made = is; law = subst (λ (v : View g.row.A.Denot). Lawful a c.args.arbiter v) (sym is) (lawful a rules c.args.arbiter c.args.mark c.args.first) }
 
-pub invariant-of-result : goal.invariant-of-result
-invariant-of-result g c =
+pub invariant_of-result : goal.invariant_of-result
+invariant_of-result g c =
     let l = c.new-2.result in
     let most = (g.met.A.Arbiter.within c.args.arbiter).eight in
     (search rules, (omega (arith, c.number-ports.ensures, c.ports.ensures, most), (refl, (within_none c.empty-2.result c.empty-2.ensures _, (ready-none c.empty-2.result c.empty-2.ensures (l ∷ l ∷ l ∷ l ∷ l ∷ l ∷ l ∷ l ∷ []), tt)))))

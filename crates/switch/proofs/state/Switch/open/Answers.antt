@@ -14,4 +14,4 @@ returns g c m =
       | in-Closed w ↦ w.in-Closed.is
       | in-default w ↦ absurd (both_ways c.match-matches.matches w.matches-is c.if-not-matches.false)
     ] in
-    opens (view c.args.self.now) m (inside c.empty-self.result) closed c.if-self-gt-LAST-SLOT.false (inside-none c.empty-self.result c.empty-self.ensures)
+    opens (view c.args.self.now) m (inside c.empty-self.result) closed c.if-self-gt-LAST_SLOT.false (inside-none c.empty-self.result c.empty-self.ensures)

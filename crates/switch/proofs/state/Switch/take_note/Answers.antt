@@ -9,10 +9,10 @@ pub returns-in-Ok : goal.returns-in-Ok
 returns-in-Ok g c cells bytes =
     let s = c.args.self.now in
     let m : Memory = record { cells = cells; notes = c.args.notes.now; bytes = bytes } in
-    takes-note (view s) m c.args.output s.notes refl c.if-output-self.false s.small c.if-notes-ne-NOTE-BLOCKS.false _ (Queued.view c.take.new.self) c.in-Ok.ensures
+    takes-note (view s) m c.args.output s.notes refl c.if-output-self.false s.small c.if-notes-ne-NOTE_BLOCKS.false _ (Queued.view c.take.new.self) c.in-Ok.ensures
 
 pub returns-in-Err : goal.returns-in-Err
 returns-in-Err g c cells bytes =
     let s = c.args.self.now in
     let m : Memory = record { cells = cells; notes = c.args.notes.now; bytes = bytes } in
-    takes-note (view s) m c.args.output s.notes refl c.if-output-self.false s.small c.if-notes-ne-NOTE-BLOCKS.false _ (Queued.view c.take.new.self) c.in-Err.ensures
+    takes-note (view s) m c.args.output s.notes refl c.if-output-self.false s.small c.if-notes-ne-NOTE_BLOCKS.false _ (Queued.view c.take.new.self) c.in-Err.ensures

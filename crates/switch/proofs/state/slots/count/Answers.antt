@@ -11,8 +11,8 @@ fewer c =
     let w = c.loop-i.invariant.1 x f.0 in
     ap length (pairs_first c.args.ports c.loop-i.rest c.without-rest.result x c.requires.0 w.0 w.1 f c.without-rest.ensures) ∙ omega arith
 
-pub overflow-add-number : goal.overflow-add-number
-overflow-add-number c = omega (arith, c.loop-i.invariant.0, fewer c, pairs-most c.args.ports c.args.table c.requires.0)
+pub overflow_add-number : goal.overflow_add-number
+overflow_add-number c = omega (arith, c.loop-i.invariant.0, fewer c, pairs-most c.args.ports c.args.table c.requires.0)
 
 pub loop-i-smaller : goal.loop-i-smaller
 loop-i-smaller c = omega (arith, fewer c)
@@ -24,4 +24,4 @@ loop-i-preserved c = (
 )
 
 pub returns : goal.returns
-returns c = omega (arith, c.loop-i.invariant.0, ap length (pairs-none c.args.ports c.loop-i.rest c.in-default.ensures))
+returns c = omega (arith, c.loop-i.invariant.0, ap length (pairs-none c.args.ports c.loop-i.rest c.in_default.ensures))

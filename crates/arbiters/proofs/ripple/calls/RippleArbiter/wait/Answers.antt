@@ -6,8 +6,8 @@ use Rattle.arbiters.proofs.Told.{told-small}
 use Rattle.arbiters.proofs.Turns.{square-small}
 use Rattle.arbiters.proofs.ripple.calls.RippleArbiter.wait.Goals as goal
 
-pub overflow-add-result-then-output-n : goal.overflow-add-result-then-output-n
-overflow-add-result-then-output-n c =
+pub overflow_add-result-then-output-n : goal.overflow_add-result-then-output-n
+overflow_add-result-then-output-n c =
     let n : ℕ = c.number-n.result in
     let h = square-small n (omega arith) in
     let m : c.args.input * n + c.args.output < n * n = mul-add-lt c.args.input n c.args.output n c.if-input-n.true c.if-output-n.true in
