@@ -18,7 +18,7 @@ invariant_of-self g c =
     let s = step l c.args.from c.args.to c.requires.0 c.requires.1.0 c.requires.1.1 (omega (arith, c.if-self-from-eq0.false))
     (omega arith) (omega arith) (omega arith) (omega arith) c.move_head.new.self c.move_head.result
     c.move_head.ensures.lists c.move_head.ensures.block in
-    (l.addressed, (s.inside, (s.apart, (s.covered, (s.ended, (s.whole, tt))))))
+    record { addressed = l.addressed; inside = s.inside; apart = s.apart; covered = s.covered; ended = s.ended; whole = s.whole }
 
 pub returns-then-self-from-eq0 : goal.returns-then-self-from-eq0
 returns-then-self-from-eq0 g c =

@@ -20,7 +20,14 @@ invariant_of-result g c =
     let n = c.loop-i.next in
     let u : (k : ℕ) → k < g.row.B → get_or n k 0 ≡ k + 1 = λ k l. c.loop-i.invariant.1 k (omega arith) in
     let f : g.row.B * 8 < 2 ^ 64 = search rules in
-    (f, (inside-start g.row.B n u, (apart-start g.row.B n u, (covered_start g.row.B n u, (ended-start g.row.B n u _ c.saturating_sub.ensures, (whole-start g.row.B, tt))))))
+    record {
+      addressed = f;
+      inside = inside-start g.row.B n u;
+      apart = apart-start g.row.B n u;
+      covered = covered_start g.row.B n u;
+      ended = ended-start g.row.B n u _ c.saturating_sub.ensures;
+      whole = whole-start g.row.B;
+    }
 
 pub returns : goal.returns
 returns g c =
