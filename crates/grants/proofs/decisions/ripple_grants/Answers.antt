@@ -6,7 +6,7 @@ use Rattle.pairs.specs.Tables.{added, holds, ports_of, table_of, within}
 use Rattle.grants.specs.Ripple.{port, ripple_granted}
 use Rattle.grants.proofs.Walks.{Walk, begin, finish, give, skip}
 use Rattle.grants.proofs.decisions.ripple_grants.Goals as goal
-use Rattle.grants.proofs.decisions.ripple_grants.Goals.{in-Some, in-default}
+use Rattle.grants.proofs.decisions.ripple_grants.Goals.{in-Some, in_default}
 
 pub rows-init : goal.rows-init
 rows-init c =
@@ -32,7 +32,7 @@ rows-preserved c =
           c.outputs.result outputs c.and.ensures w.in-Some.output w.in-Some.ensures.0 w.in-Some.ensures.1
           w.without-free.result w.with-grants.result
           (w.with-grants.ensures ∙ ap (λ (i : ℕ). table_of (added (holds c.rows.grants) i w.in-Some.output)) input) w.without-free.ensures)
-      | in-default w ↦
+      | in_default w ↦
           subst₂ (λ (f : Ports) (g : Table). Walk (holds c.args.requests) n a b (c.rows.u + 1) f g) (sym w.free-is) (sym w.grants-is)
           (skip c.args.requests n a b (omega arith) row column c.rows.u (omega arith) c.and.result c.rows.free c.rows.grants c.rows.invariant
           c.outputs.result outputs c.and.ensures w.in_default.ensures)

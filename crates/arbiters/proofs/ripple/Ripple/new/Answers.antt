@@ -4,4 +4,4 @@ use Rattle.arbiters.proofs.ripple.Ripple.new.Goals as goal
 
 pub invariant_of-result : goal.invariant_of-result
 invariant_of-result c =
-    (mul-lt 0 0 c.in_ok-ports.ports.number c.in_ok-ports.ports.number (omega arith) (omega arith), tt)
+    record { place = mul-lt 0 0 c.in_ok-ports.ports.number c.in_ok-ports.ports.number (omega arith) (omega arith) }

@@ -7,7 +7,7 @@ use Rattle.calls.proofs.sending.Sending.close.Goals as goal
 pub invariant_of-result : goal.invariant_of-result
 invariant_of-result c =
     let e = c.in-Err.ensures in
-    (ap₂ (λ w t. wrong w Sending (grant_of t)) e.1 e.0 ∙ c.args.self.fits, tt)
+    record { fits = ap₂ (λ w t. wrong w Sending (grant_of t)) e.1 e.0 ∙ c.args.self.fits }
 
 pub returns-in-Err : goal.returns-in-Err
 returns-in-Err c =

@@ -6,4 +6,6 @@ use Rattle.calls.proofs.sending.Sending.close_at.Goals as goal
 
 pub invariant_of-result : goal.invariant_of-result
 invariant_of-result c =
-    (ap (λ t. wrong (view c.args.self.two.switch) Sending (grant_of t)) c.in-Err.ensures.0 ∙ c.args.self.fits, tt)
+    record {
+      fits = ap (λ t. wrong (view c.args.self.two.switch) Sending (grant_of t)) c.in-Err.ensures.0 ∙ c.args.self.fits;
+    }

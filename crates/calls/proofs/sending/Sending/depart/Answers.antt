@@ -7,4 +7,6 @@ use Rattle.calls.proofs.sending.Sending.depart.Goals as goal
 pub invariant_of-self : goal.invariant_of-self
 invariant_of-self c =
     let s = c.args.self.now in
-    ((subst (λ o. Parting s.two.noted (view s.two.switch) o) c.depart.ensures (departs s.two.noted (view s.two.switch) s.two.kept (record { cells = c.args.blocks.now; notes = c.args.notes.now; bytes = c.args.bytes.now }) (grant_of s.ticket) (outputs-pairs s.two.switch.ports s.two.switch.grants))).fits Sending (grant_of s.ticket) ∙ s.fits, tt)
+    record {
+      fits = (subst (λ o. Parting s.two.noted (view s.two.switch) o) c.depart.ensures (departs s.two.noted (view s.two.switch) s.two.kept (record { cells = c.args.blocks.now; notes = c.args.notes.now; bytes = c.args.bytes.now }) (grant_of s.ticket) (outputs-pairs s.two.switch.ports s.two.switch.grants))).fits Sending (grant_of s.ticket) ∙ s.fits;
+    }

@@ -8,7 +8,9 @@ use Rattle.calls.proofs.two_ports.TwoPorts.decide.Goals as goal
 pub invariant_of-self : goal.invariant_of-self
 invariant_of-self c =
     let s = c.args.self.now in
-    ((subst (λ o. Held s.noted o) (c.decide.ensures.done nothing) (decides s.noted (view s.switch) s.kept (meaning ghosts.ports ghosts.bound ghosts.wait ghosts.answer ghosts.after) nothing (arrival_of c.args.ticket))).kept, tt)
+    record {
+      kept = (subst (λ o. Held s.noted o) (c.decide.ensures.done nothing) (decides s.noted (view s.switch) s.kept (meaning ghosts.ports ghosts.bound ghosts.wait ghosts.answer ghosts.after) nothing (arrival_of c.args.ticket))).kept;
+    }
 
 pub returns : goal.returns
 returns c =

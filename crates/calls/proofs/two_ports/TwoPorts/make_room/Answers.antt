@@ -6,4 +6,6 @@ use Rattle.calls.proofs.two_ports.TwoPorts.make_room.Goals as goal
 pub invariant_of-self : goal.invariant_of-self
 invariant_of-self c =
     let s = c.args.self.now in
-    ((subst (λ o. Steady s.noted (view s.switch) o) (c.take_note.ensures [] []) (takes s.noted (view s.switch) s.kept (record { cells = []; notes = c.args.notes.now; bytes = [] }) c.args.self.now.noted)).kept, tt)
+    record {
+      kept = (subst (λ o. Steady s.noted (view s.switch) o) (c.take_note.ensures [] []) (takes s.noted (view s.switch) s.kept (record { cells = []; notes = c.args.notes.now; bytes = [] }) c.args.self.now.noted)).kept;
+    }

@@ -6,4 +6,6 @@ use Rattle.calls.proofs.two_ports.TwoPorts.open.Goals as goal
 pub invariant_of-self : goal.invariant_of-self
 invariant_of-self c =
     let s = c.args.self.now in
-    ((subst (λ o. Held s.noted o) (c.open.ensures nothing) (opens s.noted (view s.switch) s.kept nothing)).kept, tt)
+    record {
+      kept = (subst (λ o. Held s.noted o) (c.open.ensures nothing) (opens s.noted (view s.switch) s.kept nothing)).kept;
+    }

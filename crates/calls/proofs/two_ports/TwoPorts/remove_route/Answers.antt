@@ -6,4 +6,6 @@ use Rattle.calls.proofs.two_ports.TwoPorts.remove_route.Goals as goal
 pub invariant_of-self : goal.invariant_of-self
 invariant_of-self c =
     let s = c.args.self.now in
-    ((subst (λ o. Steady s.noted (view s.switch) o) (c.remove_route.ensures nothing) (removes s.noted (view s.switch) s.kept nothing c.args.input c.args.vci)).kept, tt)
+    record {
+      kept = (subst (λ o. Steady s.noted (view s.switch) o) (c.remove_route.ensures nothing) (removes s.noted (view s.switch) s.kept nothing c.args.input c.args.vci)).kept;
+    }

@@ -6,4 +6,6 @@ use Rattle.calls.proofs.two_ports.TwoPorts.set_route.Goals as goal
 pub invariant_of-self : goal.invariant_of-self
 invariant_of-self c =
     let s = c.args.self.now in
-    ((subst (λ o. Steady s.noted (view s.switch) o) (c.set_route.ensures nothing) (sets s.noted (view s.switch) s.kept nothing c.args.input c.args.vci c.args.output c.args.new_vci)).kept, tt)
+    record {
+      kept = (subst (λ o. Steady s.noted (view s.switch) o) (c.set_route.ensures nothing) (sets s.noted (view s.switch) s.kept nothing c.args.input c.args.vci c.args.output c.args.new_vci)).kept;
+    }

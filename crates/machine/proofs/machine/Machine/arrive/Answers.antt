@@ -16,7 +16,15 @@ invariant_of-self g c =
     let t = arrival_of c.in_ok-ticket.ticket in
     let some : s.ports * 16 ≤ length s.blocks = omega (arith, s.few, s.cells) in
     let steady = subst (λ o. Steady v o) (c.arrive-answer.ensures [] []) (arrives v (record { cells = between 0 (s.ports * 16) s.blocks; notes = []; bytes = [] }) t c.args.input c.args.cell.now) in
-    (s.few, (steady.ports ∙ s.counted, (steady.fits Arriving t ∙ c.in_ok-ticket.ensures.fits, (subst (λ (q : Queues). 1 ≤ length q.free) (sym steady.notes) s.room, (length-written (s.ports * 16) s.blocks c.arrive-answer.new.blocks some c.arrive-answer.auto.blocks ∙ s.cells, (s.kept, (s.sized, tt)))))))
+    record {
+      few = s.few;
+      counted = steady.ports ∙ s.counted;
+      fits = steady.fits Arriving t ∙ c.in_ok-ticket.ensures.fits;
+      room = subst (λ (q : Queues). 1 ≤ length q.free) (sym steady.notes) s.room;
+      cells = length-written (s.ports * 16) s.blocks c.arrive-answer.new.blocks some c.arrive-answer.auto.blocks ∙ s.cells;
+      kept = s.kept;
+      sized = s.sized;
+    }
 
 pub returns : goal.returns
 returns g c =

@@ -17,7 +17,15 @@ invariant_of-self g c =
     let u = standing c.args.self.now in
     let held : ticket_of s.ticket ≡ None = ap (λ (x : Told _ Ticket). x.standing.ticket) c.in_ok-ticket.ensures.answer ∙ taken-up u u.ticket in
     let holds = subst (λ (o : Outcome _ Ticket). Holds v o) (c.decide.ensures.done nothing) (decides v nothing a (arrival_of c.in_ok-ticket.ticket)) in
-    (s.few, (holds.ports ∙ s.counted, (unfit-none (view c.decide.new.self) s.ticket held, (subst (λ (q : Queues). 1 ≤ length q.free) (sym holds.notes) s.room, (s.cells, (s.kept, (s.sized, tt)))))))
+    record {
+      few = s.few;
+      counted = holds.ports ∙ s.counted;
+      fits = unfit-none (view c.decide.new.self) s.ticket held;
+      room = subst (λ (q : Queues). 1 ≤ length q.free) (sym holds.notes) s.room;
+      cells = s.cells;
+      kept = s.kept;
+      sized = s.sized;
+    }
 
 pub finish-requires : goal.finish-requires
 finish-requires g c =

@@ -16,7 +16,15 @@ invariant_of-self g c =
     let can = sent.can s.ports c.requires.0 in
     let w = view c.send_all-departures.new.switch in
     let holds = subst (λ (o : Outcome _ SlotClosed). Holds w o) (c.close.ensures.done nothing) (closes w nothing (grant_of c.args.grants)) in
-    (s.few, (holds.ports ∙ can.ports, (unfit-none (view c.close.new.self) s.ticket c.requires.1.held, (subst (λ (q : Queues). 1 ≤ length q.free) (sym holds.notes) can.room, (s.cells, (c.send_all-departures.ensures.sized.0, (c.send_all-departures.ensures.sized.1, tt)))))))
+    record {
+      few = s.few;
+      counted = holds.ports ∙ can.ports;
+      fits = unfit-none (view c.close.new.self) s.ticket c.requires.1.held;
+      room = subst (λ (q : Queues). 1 ≤ length q.free) (sym holds.notes) can.room;
+      cells = s.cells;
+      kept = c.send_all-departures.ensures.sized.0;
+      sized = c.send_all-departures.ensures.sized.1;
+    }
 
 pub unreachable-requires : goal.unreachable-requires
 unreachable-requires g c =

@@ -10,4 +10,12 @@ invariant_of-self g c =
     let v = view s.switch in
     let w = view c.set_route.new.self in
     let steady = subst (λ o. Steady v o) (c.set_route.ensures nothing) (sets v nothing c.args.input c.args.vci c.args.output c.args.new_vci) in
-    (s.few, (steady.ports ∙ s.counted, (unfit-same v w steady.fits s.ticket s.fits, (subst (λ (q : Queues). 1 ≤ length q.free) (sym steady.notes) s.room, (s.cells, (s.kept, (s.sized, tt)))))))
+    record {
+      few = s.few;
+      counted = steady.ports ∙ s.counted;
+      fits = unfit-same v w steady.fits s.ticket s.fits;
+      room = subst (λ (q : Queues). 1 ≤ length q.free) (sym steady.notes) s.room;
+      cells = s.cells;
+      kept = s.kept;
+      sized = s.sized;
+    }

@@ -16,7 +16,15 @@ invariant_of-self-in-None g c =
     let v = view s.switch in
     let w = view c.open.new.self in
     let holds = subst (λ o. Holds v o) (c.open.ensures nothing) (opens v nothing) in
-    (s.few, (holds.ports ∙ s.counted, (ap (λ (t : Option ArrivalTicket). unfit w t) c.take.ensures.after, (subst (λ (q : Queues). 1 ≤ length q.free) (sym holds.notes) s.room, (s.cells, (s.kept, (s.sized, tt)))))))
+    record {
+      few = s.few;
+      counted = holds.ports ∙ s.counted;
+      fits = ap (λ (t : Option ArrivalTicket). unfit w t) c.take.ensures.after;
+      room = subst (λ (q : Queues). 1 ≤ length q.free) (sym holds.notes) s.room;
+      cells = s.cells;
+      kept = s.kept;
+      sized = s.sized;
+    }
 
 pub returns-in-None : goal.returns-in-None
 returns-in-None g c =

@@ -26,4 +26,10 @@ pub invariant_of-result : goal.invariant_of-result
 invariant_of-result g c =
     let l = c.new-2.result in
     let most = (g.met.A.Arbiter.within c.args.arbiter).eight in
-    (search rules, (omega (arith, c.number-ports.ensures, c.ports.ensures, most), (refl, (within_none c.empty-2.result c.empty-2.ensures _, (ready-none c.empty-2.result c.empty-2.ensures (l ∷ l ∷ l ∷ l ∷ l ∷ l ∷ l ∷ l ∷ []), tt)))))
+    record {
+      numbered = search rules;
+      small = omega (arith, c.number-ports.ensures, c.ports.ensures, most);
+      sized = refl;
+      within = within_none c.empty-2.result c.empty-2.ensures _;
+      ready = ready-none c.empty-2.result c.empty-2.ensures (l ∷ l ∷ l ∷ l ∷ l ∷ l ∷ l ∷ l ∷ []);
+    }
