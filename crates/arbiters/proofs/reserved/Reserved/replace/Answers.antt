@@ -7,10 +7,7 @@ pub invariant_of-self : goal.invariant_of-self
 invariant_of-self c =
     let is : c.with-self.result ≡ replaced c.args.self.now.pairs c.args.input c.args.output =
     replaced-is c.args.self.now.pairs c.empty.result c.with_outputs-had.result c.minus.result c.with-self.result c.outputs.result c.args.input c.args.output
-    c.empty.ensures c.outputs.ensures c.with_outputs-had.ensures c.minus.ensures c.with-self.ensures in (
-      replaced-output c.args.self.now.pairs c.with-self.result c.args.input c.args.output is c.requires c.args.self.now.inputs,
-      (replaced-input c.args.self.now.pairs c.with-self.result c.args.input c.args.output is c.requires c.args.self.now.outputs, tt),
-    )
+    c.empty.ensures c.outputs.ensures c.with_outputs-had.ensures c.minus.ensures c.with-self.ensures in record { inputs = replaced-output c.args.self.now.pairs c.with-self.result c.args.input c.args.output is c.requires c.args.self.now.inputs; outputs = replaced-input c.args.self.now.pairs c.with-self.result c.args.input c.args.output is c.requires c.args.self.now.outputs }
 
 pub returns : goal.returns
 returns c =

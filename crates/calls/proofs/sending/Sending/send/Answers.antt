@@ -8,24 +8,22 @@ use Rattle.calls.proofs.sending.Sending.send.Goals as goal
 
 pub invariant_of-self-else-is_err : goal.invariant_of-self-else-is_err
 invariant_of-self-else-is_err c =
-    let s = c.args.self.now in (
-      (subst (λ o. Parting s.two.noted (view s.two.switch) o) c.depart.ensures
+    let s = c.args.self.now in record {
+      fits = (subst (λ o. Parting s.two.noted (view s.two.switch) o) c.depart.ensures
           (departs s.two.noted (view s.two.switch) s.two.kept (record { cells = c.args.blocks.now; notes = c.args.notes.now; bytes = c.args.bytes.now }) (grant_of s.ticket) (outputs-pairs s.two.switch.ports s.two.switch.grants))
-          ).fits Sending (grant_of s.ticket) ∙ s.fits,
-      tt,
-    )
+          ).fits Sending (grant_of s.ticket) ∙ s.fits;
+    }
 
 pub invariant_of-self : goal.invariant_of-self
 invariant_of-self c =
     let s = c.args.self.now in
-    let u = c.depart.new.self in (
-      (subst (λ o. Steady u.noted (view u.switch) o) (c.make_room.ensures [] []) (takes u.noted (view u.switch) u.kept (record { cells = []; notes = c.depart.new.notes; bytes = [] }) u.noted)
+    let u = c.depart.new.self in record {
+      fits = (subst (λ o. Steady u.noted (view u.switch) o) (c.make_room.ensures [] []) (takes u.noted (view u.switch) u.kept (record { cells = []; notes = c.depart.new.notes; bytes = [] }) u.noted)
           ).fits Sending (grant_of s.ticket)
           ∙ (subst (λ o. Parting s.two.noted (view s.two.switch) o) c.depart.ensures
           (departs s.two.noted (view s.two.switch) s.two.kept (record { cells = c.args.blocks.now; notes = c.args.notes.now; bytes = c.args.bytes.now }) (grant_of s.ticket) (outputs-pairs s.two.switch.ports s.two.switch.grants))
-          ).fits Sending (grant_of s.ticket) ∙ s.fits,
-      tt,
-    )
+          ).fits Sending (grant_of s.ticket) ∙ s.fits;
+    }
 
 pub returns-else-is_err : goal.returns-else-is_err
 returns-else-is_err c =

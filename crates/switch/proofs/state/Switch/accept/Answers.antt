@@ -12,47 +12,29 @@ use Rattle.switch.proofs.state.Switch.accept.Goals as goal
 
 pub invariant_of-self : goal.invariant_of-self
 invariant_of-self g c =
-    let s = c.args.self.now in (
-      s.numbered,
-      (
-        s.small,
-        (
-          c.store.auto.links ∙ s.sized,
-          (
-            s.within,
-            (
-              (λ x h.
-                  let more = longer (cells_of s.cells) (cells_of c.store.new.links) _ _ _ _ _ _ c.store.ensures x.0 x.1 in
-                  let was = s.ready x h in
-                  omega (arith, more, was)),
-              tt,
-            ),
-          ),
-        ),
-      ),
-    )
+    let s = c.args.self.now in record {
+      numbered = s.numbered;
+      small = s.small;
+      sized = c.store.auto.links ∙ s.sized;
+      within = s.within;
+      ready = (λ x h.
+          let more = longer (cells_of s.cells) (cells_of c.store.new.links) _ _ _ _ _ _ c.store.ensures x.0 x.1 in
+          let was = s.ready x h in
+          omega (arith, more, was));
+    }
 
 pub invariant_of-self-2 : goal.invariant_of-self-2
 invariant_of-self-2 g c =
-    let s = c.args.self.now in (
-      s.numbered,
-      (
-        s.small,
-        (
-          c.store.auto.links ∙ s.sized,
-          (
-            s.within,
-            (
-              (λ x h.
-                  let more = longer (cells_of s.cells) (cells_of c.store.new.links) _ _ _ _ _ _ c.store.ensures x.0 x.1 in
-                  let was = s.ready x h in
-                  omega (arith, more, was)),
-              tt,
-            ),
-          ),
-        ),
-      ),
-    )
+    let s = c.args.self.now in record {
+      numbered = s.numbered;
+      small = s.small;
+      sized = c.store.auto.links ∙ s.sized;
+      within = s.within;
+      ready = (λ x h.
+          let more = longer (cells_of s.cells) (cells_of c.store.new.links) _ _ _ _ _ _ c.store.ensures x.0 x.1 in
+          let was = s.ready x h in
+          omega (arith, more, was));
+    }
 
 pub returns : goal.returns
 returns g c notes bytes =

@@ -21,19 +21,7 @@ pub invariant_of-self : goal.invariant_of-self
 invariant_of-self g c =
     let s = c.args.self.now in
     let a = meaning g.A.Arbiter.ports g.A.Arbiter.bound g.A.Arbiter.wait g.A.Arbiter.answer g.A.Arbiter.after in
-    let law = g.met.A.Arbiter.requested s.arbiter c.requests-requests.result in (
-      s.numbered,
-      (
-        s.small,
-        (
-          s.sized,
-          (
-            within-granted a (view s) s.arbiter c.requests-requests.result c.decide-grants.result law c.requests-requests.ensures c.decide-grants.ensures.answer,
-            (ready-granted a (view s) s.arbiter c.requests-requests.result c.decide-grants.result law c.requests-requests.ensures c.decide-grants.ensures.answer s.cells refl, tt),
-          ),
-        ),
-      ),
-    )
+    let law = g.met.A.Arbiter.requested s.arbiter c.requests-requests.result in record { numbered = s.numbered; small = s.small; sized = s.sized; within = within-granted a (view s) s.arbiter c.requests-requests.result c.decide-grants.result law c.requests-requests.ensures c.decide-grants.ensures.answer; ready = ready-granted a (view s) s.arbiter c.requests-requests.result c.decide-grants.result law c.requests-requests.ensures c.decide-grants.ensures.answer s.cells refl }
 
 pub returns : goal.returns
 returns g c =

@@ -39,19 +39,7 @@ pub invariant_of-self : goal.invariant_of-self
 invariant_of-self g c =
     let s = c.args.self.now in
     let x : ℕ × ℕ = (c.in-Some.input, c.in-Some.output) in
-    let f = c.in-Some.ensures in (
-      s.numbered,
-      (
-        s.small,
-        (
-          c.fetch-block.auto.links ∙ s.sized,
-          (
-            within-dropped s.ports s.grants c.without-self.result x s.small c.without-self.ensures s.within,
-            (ready-sent s.grants c.without-self.result x (cells_of s.cells) (cells_of c.fetch-block.new.links) c.without-self.ensures f.0 c.fetch-block.ensures.queues s.ready, tt),
-          ),
-        ),
-      ),
-    )
+    let f = c.in-Some.ensures in record { numbered = s.numbered; small = s.small; sized = c.fetch-block.auto.links ∙ s.sized; within = within-dropped s.ports s.grants c.without-self.result x s.small c.without-self.ensures s.within; ready = ready-sent s.grants c.without-self.result x (cells_of s.cells) (cells_of c.fetch-block.new.links) c.without-self.ensures f.0 c.fetch-block.ensures.queues s.ready }
 
 pub returns : goal.returns
 returns g c =
