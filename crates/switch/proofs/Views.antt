@@ -14,6 +14,7 @@ use Rattle.refusals.specs.declared.refusal.Refusal.TheVariants.{PortBeyond, Cell
 use Rattle.law.specs.declared.memory.Block.{Block}
 use Rattle.law.specs.declared.memory.Note.{Note}
 use Rattle.switch.specs.declared.state.Switch.{Switch}
+use Rattle.arbiters.specs.declared.arbiter.Arbiter.{Ghosts}
 use Rattle.switch.specs.Seen.{view, looking, Looks}
 use Rattle.law.specs.View.{Memory, View, place, leaving, part}
 use Rattle.law.specs.Calls.{Outcome, unless, done, refused, is_empty, not53, head_block, look_call, line_call}
@@ -78,7 +79,7 @@ module _ {A : Type 0} (v : View A) (m : Memory) (i o : ℕ) (x : List ℕ) (q : 
       by-queue (n ∷ l) f g = let z : ◌≡◌ {A = ℕ} 0 1 = cc in absurd (omega arith)
 
 -- the whole of what look leaves, from what the call comes to
-pub looked : {A : Type 0} (s : Switch A) (i o : ℕ) (cells : List Block) (x : List ℕ) (r : Result (Unit {0}) Refusal) (cells' : List Block) (y : List ℕ) (come : Result (List ℕ) Refusal)
+pub looked : {A : Type 0} {G : Ghosts A} (s : Switch A G) (i o : ℕ) (cells : List Block) (x : List ℕ) (r : Result (Unit {0}) Refusal) (cells' : List Block) (y : List ℕ) (come : Result (List ℕ) Refusal)
     → ((notes : List Note) (bytes : List ℕ) → looking s i o cells x notes bytes ≡ told (view s) (record { cells = cells; notes = notes; bytes = bytes }) come)
     → r ≡ answered come → y ≡ written come x → cells' ≡ cells → Looks s i o cells x r cells' y
 looked {A} s i o cells x r cells' y come e f g h = record {

@@ -1,4 +1,4 @@
-use Rattle.std.proofs.Common.{ℕ, ◌<◌, get_or, drop, set, sym, refl, ap, ◌∙◌, arith}
+use Rattle.std.proofs.Common.{ℕ, ◌<◌, get_or, drop, set, sym, refl, ap, ◌∙◌, arith, rules}
 use Rattle.std.proofs.lemmas.Bool.{not-true}
 use Rattle.pairs.specs.Tables.{holds, table_of, dropped, inside}
 use Rattle.queues.specs.Queues as Queued
@@ -58,7 +58,22 @@ returns g c =
     let joins = notes-join s.notes c.args.notes.now c.join.new.blocks x.1 _ c.join.result (Queued.view c.join.new.self) (get_or free 0 0) (drop 1 free) lo c.if-notes-ne-NOTE_BLOCKS.false some c.join.ensures in
     departs v m t c.if-blocks-ports.false c.if-notes-ne-NOTE_BLOCKS.false c.if-bytes-ports.false fit
     x (pairs s.ports c.without-self.result) (pairs_first s.ports s.grants c.without-self.result x s.small w.0 w.1 f c.without-self.ensures)
-    (get_or free 0 0) (drop 1 free) some b t.slot (inside c.with-self.result) (cells_of c.fetch-block.new.links) (Queued.view c.join.new.self) c.join.new.blocks c.send_into.new.slot-bytes
+    (get_or free 0 0) (drop 1 free) some b t.slot (inside c.with-self.result) (cells_of c.fetch-block.new.links) (Queued.view c.join.new.self) c.join.new.blocks c.send_into.new.slot_bytes
     c.fetch-block.ensures.block (of-slot v Sending t fit) (inside-with s.sent c.with-self.result x.1 lo c.with-self.ensures) c.fetch-block.ensures.queues joins.0
     (joins.1 ∙ ap (λ (n : ℕ). set c.args.notes.now (get_or free 0 0) (record { slot = t.slot; input = x.0; came = n; left = b.new_vci })) c.vci.ensures)
-    (sent-bytes c.args.bytes.now c.send_into.new.slot-bytes x.1 s.ports b w.1 c.if-bytes-ports.false c.send_into.ensures.bytes)
+    (sent-bytes c.args.bytes.now c.send_into.new.slot_bytes x.1 s.ports b w.1 c.if-bytes-ports.false c.send_into.ensures.bytes)
+
+pub fetch-block-requires : goal.fetch-block-requires
+fetch-block-requires g c =
+    let s = c.args.self.now in
+    let x : ℕ × ℕ = (c.in-Some.input, c.in-Some.output) in
+    let f = c.in-Some.ensures in
+    let w = s.within x f.0 in
+    (omega (arith, w.0, s.small, s.sized), (omega (arith, w.1, s.small), (omega (arith, w.0, c.if-blocks-ports.false), s.ready x f.0)))
+
+pub overflow_cast-result-2 : goal.overflow_cast-result-2
+overflow_cast-result-2 g c =
+    let s = c.args.self.now in
+    let w = s.within (c.in-Some.input, c.in-Some.output) c.in-Some.ensures.0 in
+    let small : c.in-Some.output < 8 = omega (arith, w.1, s.small) in
+    search rules

@@ -5,7 +5,7 @@ use Rattle.switch.specs.Ready.{queues_of}
 use Rattle.switch.specs.Seen.{view}
 use Rattle.switch.proofs.Requests.{wants, seen-with, seen_same, wants-head}
 use Rattle.switch.proofs.state.Switch.requests.Goals as goal
-use Rattle.switch.proofs.state.Switch.requests.Goals.{then-is-ok, else-is-ok}
+use Rattle.switch.proofs.state.Switch.requests.Goals.{then-is_ok, else-is_ok}
 
 pub loop-o-preserved : goal.loop-o-preserved
 loop-o-preserved g c =
@@ -18,6 +18,6 @@ loop-o-preserved g c =
     let wanted : wants (view s) i o ≡ c.is_ok.result =
     wants-head (view s) i o (Queued.view l) c.loop-i-test.true c.loop-o-test.true s.small is ∙ ap is_ok (sym c.head_block.ensures.number) ∙ sym c.is_ok.ensures.value in
     elim c.if-is_ok.branch [
-      | then-is-ok w ↦ w.table-is ∙ w.with-table.ensures ∙ seen-with (wants (view s)) i o c.loop-o.table (wanted ∙ w.if-is_ok.true) c.loop-o.invariant
-      | else-is-ok w ↦ w.table-is ∙ seen_same (wants (view s)) i o c.loop-o.table (wanted ∙ w.if-is_ok.false) c.loop-o.invariant
+      | then-is_ok w ↦ w.table-is ∙ w.with-table.ensures ∙ seen-with (wants (view s)) i o c.loop-o.table (wanted ∙ w.if-is_ok.true) c.loop-o.invariant
+      | else-is_ok w ↦ w.table-is ∙ seen_same (wants (view s)) i o c.loop-o.table (wanted ∙ w.if-is_ok.false) c.loop-o.invariant
     ]
