@@ -1,9 +1,9 @@
 -- What every call leaves standing: the two ports, a note where no note block is free, and the tickets that fit.
-use Rattle.std.proofs.Common.{◌≡◌, ℕ, ◌+◌, ◌-◌, ◌<◌, ◌≤◌, Bool, true, cond, not, ◌&&◌, eqb, ltb, List, [], ◌∷◌, ◌++◌, length, Some, None, Ok, Err, Option, Result, sym, refl, ap, subst, arith, length-append}
+use Rattle.std.proofs.Common.{◌≡◌, ℕ, ◌+◌, ◌<◌, ◌≤◌, Bool, true, cond, not, ◌&&◌, eqb, ltb, List, [], ◌∷◌, ◌++◌, length, Some, None, Ok, Err, Option, Result, sym, refl, ap, subst, arith, length-append}
 use Rattle.std.proofs.lemmas.Bool.{cond_both, and_parts, not-false, both_ways, eq-eqb}
 use Rattle.arbiters.specs.Meaning.{Meaning}
 use Rattle.cells.specs.Header.{is_idle, vci_of}
-use Rattle.queues.specs.Queues.{Queues, put, joined, joined_by, taken, taken_by}
+use Rattle.queues.specs.Queues.{Queues, put, joined, joined_by, taken_by}
 use Rattle.refusals.specs.declared.refusal.Refusal.{Refusal}
 use Rattle.refusals.specs.declared.refusal.Refusal.TheVariants.{PortBeyond, CellLength, CellMemoryLength, NoteMemoryLength, SlotBytesLength, WrongTicket, SlotOpen, NoSlotNumber, TurnUsed, GrantsUnsent}
 use Rattle.routes.specs.declared.route.Route.{Route}

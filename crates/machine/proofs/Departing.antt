@@ -1,7 +1,7 @@
 -- One departure and the taking of its note: neither is refused while a grant is left.
-use Rattle.std.proofs.Common.{◌≡◌, ℕ, ◌+◌, ◌*◌, ◌<◌, ◌≤◌, Bool, false, not, eqb, List, [], ◌∷◌, ◌++◌, length, None, Ok, Err, Result, sym, refl, ap, ◌∙◌, subst, arith, length-append}
+use Rattle.std.proofs.Common.{◌≡◌, ℕ, ◌+◌, ◌*◌, ◌<◌, ◌≤◌, not, eqb, List, [], ◌∷◌, ◌++◌, length, Ok, Err, Result, sym, refl, ap, ◌∙◌, subst, arith, length-append}
 use Rattle.std.proofs.lemmas.Bool.{cond_both, both_ways, eq-eqb, lt-ltb}
-use Rattle.queues.specs.Queues.{Queues, put, joined, joined_by, taken, taken_by}
+use Rattle.queues.specs.Queues.{put, joined, joined_by, taken, taken_by}
 use Rattle.refusals.specs.declared.refusal.Refusal.{Refusal}
 use Rattle.refusals.specs.declared.refusal.Refusal.TheVariants.{PortBeyond, CellMemoryLength, NoteMemoryLength, SlotBytesLength, WrongTicket}
 use Rattle.law.specs.declared.answers.Departed.{Departed}

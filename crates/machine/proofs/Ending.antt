@@ -1,5 +1,5 @@
 -- A slot is decided and closed: neither is refused.
-use Rattle.std.proofs.Common.{◌≡◌, ℕ, ◌+◌, ◌≤◌, Bool, true, false, not, ◌&&◌, eqb, List, [], ◌∷◌, length, Ok, Err, Result, sym, refl, ap, ◌∙◌, subst}
+use Rattle.std.proofs.Common.{◌≡◌, ℕ, ◌+◌, ◌≤◌, Bool, true, false, not, ◌&&◌, eqb, List, [], ◌∷◌, length, Ok, Err, Result, sym, refl, ap, subst}
 use Rattle.std.proofs.lemmas.Bool.{and_parts, not-false}
 use Rattle.arbiters.specs.Meaning.{Meaning}
 use Rattle.arbiters.specs.Rules.{Apart}
@@ -7,7 +7,7 @@ use Rattle.refusals.specs.declared.refusal.Refusal.{Refusal}
 use Rattle.refusals.specs.declared.refusal.Refusal.TheVariants.{WrongTicket, GrantsUnsent}
 use Rattle.law.specs.declared.answers.SlotClosed.{SlotClosed}
 use Rattle.law.specs.declared.stage.Stage.TheVariants.{Arriving, Sending}
-use Rattle.law.specs.View.{Memory, View, pairs}
+use Rattle.law.specs.View.{Memory, View}
 use Rattle.law.specs.Calls.{Outcome, Ticket, requests, same_stage, wrong, is_empty, decide_call, close_call}
 use Rattle.law.proofs.Pairs.{few-pairs}
 use Rattle.law.proofs.Refusing.{passes}

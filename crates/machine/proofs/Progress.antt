@@ -1,9 +1,9 @@
 -- How far the sending of a slot's grants has come: s stood at its beginning, u stands now, and xs were sent.
-use Rattle.std.proofs.Common.{◌≡◌, ℕ, suc, ◌+◌, List, [], ◌∷◌, ◌++◌, length, Ok, Err, Result, sym, refl, ap, ◌∙◌, subst, append_assoc, append-nil, one-add, arith, length-append}
+use Rattle.std.proofs.Common.{◌≡◌, ℕ, ◌+◌, List, [], ◌∷◌, ◌++◌, length, Ok, Err, Result, sym, refl, ap, ◌∙◌, subst, append_assoc, append-nil, one-add, arith, length-append}
 use Rattle.refusals.specs.declared.refusal.Refusal.{Refusal}
 use Rattle.law.specs.Calls.{Ticket}
 use Rattle.machine.specs.declared.departures.Sent.{Sent}
-use Rattle.machine.specs.Standing.{Standing, Told, following, and_then, answering, departing, departing_all}
+use Rattle.machine.specs.Standing.{Standing, Told, following, and_then, answering, departing_all}
 use Rattle.machine.specs.Sending.{CanSend, OneSent, SendsAll}
 
 -- some cells sent before what is told

@@ -1,5 +1,5 @@
 -- From what the calls of the switch answer to what a machine tells.
-use Rattle.std.proofs.Common.{◌≡◌, ℕ, List, replicate, Some, None, Ok, Err, Option, Result, sym, refl, ap, ◌∙◌}
+use Rattle.std.proofs.Common.{◌≡◌, ℕ, List, replicate, Some, None, Ok, Option, Result, sym, refl, ap, ◌∙◌}
 use Rattle.arbiters.specs.Meaning.{Meaning}
 use Rattle.refusals.specs.declared.refusal.Refusal.{Refusal}
 use Rattle.law.specs.declared.answers.Arrival.{Arrival}

@@ -1,5 +1,6 @@
 -- A machine and what it answers, as plain values.
-use Rattle.std.specs.Prelude.{Some, None, Ok, Err, Option, Result}
+use Rattle.arbiters.specs.declared.arbiter.Arbiter.{Ghosts}
+use Rattle.std.specs.Prelude.{Some, None, Option, Result}
 use Rattle.refusals.specs.declared.refusal.Refusal.{Refusal}
 use Rattle.law.specs.View.{Memory}
 use Rattle.law.specs.Calls.{Ticket}
@@ -14,15 +15,15 @@ abbrev pub ticket_of : Option ArrivalTicket → Option Ticket
 ticket_of None = None
 ticket_of (Some t) = Some (arrival_of t)
 
-abbrev pub memory_of : {A : Type 0} → Machine A → Memory
+abbrev pub memory_of : {A : Type 0} {G : Ghosts A} → Machine A G → Memory
 memory_of s = lent s.ports s.blocks s.notes s.bytes
 
-abbrev pub standing : {A : Type 0} → Machine A → Standing A
+abbrev pub standing : {A : Type 0} {G : Ghosts A} → Machine A G → Standing A
 standing s = record { view = view s.switch; memory = memory_of s; ticket = ticket_of s.ticket }
 
 abbrev pub ended_of : EndedSlot → Ended
 ended_of e = record { sent = listed e.departures; closed = e.closed }
 
 -- a machine answers so, and stands so afterwards
-abbrev pub telling : {A T : Type 0} → Result T Refusal → Machine A → Told A T
+abbrev pub telling : {A T : Type 0} {G : Ghosts A} → Result T Refusal → Machine A G → Told A T
 telling r s = record { reply = r; standing = standing s }

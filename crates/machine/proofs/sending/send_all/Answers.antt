@@ -1,7 +1,6 @@
 use Rattle.std.proofs.Common.{arith}
-use Rattle.switch.specs.Seen.{grant_of, view}
+use Rattle.switch.specs.Seen.{grant_of}
 use Rattle.machine.specs.Listed.{listed}
-use Rattle.machine.specs.Sending.{sending}
 use Rattle.machine.proofs.Progress.{begun, one_more, all-sent}
 use Rattle.machine.proofs.sending.send_all.Goals as goal
 
@@ -25,5 +24,5 @@ pub returns : goal.returns
 returns g c =
     record {
       sent = all-sent (grant_of c.args.grants.now) _ (listed c.loop-sent.departures) _ _ c.loop-sent.invariant c.in_default.ensures.0 c.in_default.ensures.1;
-      sized = (c.send_one.array_long, c.send_one.array-long2);
+      sized = (c.send_one.array_long, c.send_one.array_long2);
     }

@@ -1,4 +1,4 @@
-use Rattle.std.proofs.Common.{◌≡◌, ◌+◌, ◌*◌, ◌≤◌, [], length, sym, ap, ◌∙◌, subst, arith}
+use Rattle.std.proofs.Common.{◌+◌, ◌*◌, ◌≤◌, [], length, sym, ap, ◌∙◌, subst, arith}
 use Rattle.law.specs.declared.answers.Departed.{Departed}
 use Rattle.law.specs.View.{Slot, part}
 use Rattle.law.specs.Calls.{Outcome}

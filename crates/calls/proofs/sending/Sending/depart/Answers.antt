@@ -1,7 +1,8 @@
 use Rattle.std.proofs.Common.{◌∙◌, subst}
 use Rattle.law.specs.declared.stage.Stage.TheVariants.{Sending}
 use Rattle.switch.specs.Seen.{view, grant_of}
-use Rattle.calls.proofs.Keeping.{Parting, departs, outputs-pairs}
+use Rattle.law.proofs.Pairs.{outputs-pairs}
+use Rattle.calls.proofs.Keeping.{Parting, departs}
 use Rattle.calls.proofs.sending.Sending.depart.Goals as goal
 
 pub invariant_of-self : goal.invariant_of-self

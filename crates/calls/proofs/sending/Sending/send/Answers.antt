@@ -2,7 +2,8 @@ use Rattle.std.proofs.Common.{◌≡◌, ◌*◌, [], length, sym, ◌∙◌, su
 use Rattle.law.specs.declared.stage.Stage.TheVariants.{Sending}
 use Rattle.law.specs.View.{Memory}
 use Rattle.switch.specs.Seen.{view, grant_of}
-use Rattle.calls.proofs.Keeping.{Steady, Parting, departs, takes, outputs-pairs}
+use Rattle.law.proofs.Pairs.{outputs-pairs}
+use Rattle.calls.proofs.Keeping.{Steady, Parting, departs, takes}
 use Rattle.calls.proofs.Ending.{Nearer, depart-nearer, nearer-ok, nearer-err, room-nearer}
 use Rattle.calls.proofs.sending.Sending.send.Goals as goal
 

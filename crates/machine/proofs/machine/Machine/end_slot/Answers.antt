@@ -2,8 +2,8 @@ use Rattle.std.proofs.Common.{◌≡◌, ◌≤◌, length, None, sym, ap, ◌�
 use Rattle.queues.specs.Queues.{Queues}
 use Rattle.law.specs.Calls.{Outcome, Ticket, requests}
 use Rattle.switch.specs.Seen.{arrival_of, grant_of, meaning, view}
-use Rattle.machine.specs.Machines.{ended_of, memory_of, standing, telling, ticket_of}
-use Rattle.machine.specs.Standing.{Standing, Told, taking_up}
+use Rattle.machine.specs.Machines.{ended_of, memory_of, standing, ticket_of}
+use Rattle.machine.specs.Standing.{Told}
 use Rattle.machine.proofs.Keeping.{nothing, Holds, decides, unfit-none}
 use Rattle.machine.proofs.Ending.{Deciding, Decided, decided}
 use Rattle.machine.proofs.Telling.{taken-up, ended, ends}

@@ -1,10 +1,8 @@
-use Rattle.std.proofs.Common.{◌≡◌, ◌≤◌, false, length, Option, sym, ap, ◌∙◌, subst}
+use Rattle.std.proofs.Common.{◌≤◌, length, sym, ◌∙◌, subst}
 use Rattle.queues.specs.Queues.{Queues}
 use Rattle.law.specs.declared.answers.SlotClosed.{SlotClosed}
 use Rattle.law.specs.Calls.{Outcome}
-use Rattle.switch.specs.declared.tickets.ArrivalTicket.{ArrivalTicket}
 use Rattle.switch.specs.Seen.{grant_of, view}
-use Rattle.machine.specs.Fitting.{unfit}
 use Rattle.machine.proofs.Keeping.{nothing, Holds, closes, unfit-none}
 use Rattle.machine.proofs.Ending.{Closing, closed}
 use Rattle.machine.proofs.machine.Machine.finish.Goals as goal

@@ -1,4 +1,4 @@
-use Rattle.std.proofs.Common.{◌≡◌, ◌≤◌, Bool, length, None, Option, sym, ap, ◌∙◌, subst}
+use Rattle.std.proofs.Common.{◌≡◌, ◌≤◌, length, None, Option, sym, ap, ◌∙◌, subst}
 use Rattle.queues.specs.Queues.{Queues}
 use Rattle.law.specs.declared.stage.Stage.TheVariants.{Arriving}
 use Rattle.law.specs.Calls.{Outcome, Ticket}
