@@ -10,7 +10,7 @@ use Rattle.law.specs.declared.stage.Stage.{Stage}
 use Rattle.law.specs.declared.stage.Stage.TheVariants.{Arriving, Sending}
 use Rattle.arbiters.specs.Meaning.{Meaning, Lawful as Rules}
 use Rattle.law.specs.View.{place}
-use Rattle.law.specs.History.{Effect, Acceptance, accepting, both, route_of, accepted, sent, waits}
+use Rattle.law.specs.History.{Effect, Acceptance, accepting, both, route_of, accepted, sent}
 use Rattle.law.specs.Law.{ByRoute}
 use Rattle.law.proofs.Counts.{times, count, count-first}
 use Rattle.law.proofs.Histories.{accepted-more}

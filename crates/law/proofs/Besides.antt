@@ -7,7 +7,6 @@ use Rattle.law.specs.declared.memory.Block.{Block}
 use Rattle.law.specs.declared.stage.Stage.{Stage}
 use Rattle.law.specs.declared.stage.Stage.TheVariants.{Closed, Arriving, Sending}
 use Rattle.arbiters.specs.Meaning.{Meaning}
-use Rattle.law.specs.Calls.{number}
 use Rattle.law.specs.History.{Effect, Routing, routes_only, rerouting, sent, closings}
 use Rattle.law.proofs.Counts.{times}
 use Rattle.law.proofs.Invariant.{pending, Invariant, nothing-kept, kept_more}

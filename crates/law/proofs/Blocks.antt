@@ -6,7 +6,7 @@ use Rattle.std.specs.List.{slice_get, AllByRecursion as All}
 use Rattle.queues.specs.Queues.{Queues, put, joined, joined_by, taken, taken_by, unused}
 use Rattle.law.specs.declared.memory.Block.{Block}
 use Rattle.law.specs.View.{place, leaving, part, parted}
-use Rattle.law.specs.History.{both, sent}
+use Rattle.law.specs.History.{both}
 use Rattle.law.proofs.Counts.{count, count-append, count-counting, map_same}
 use Rattle.law.proofs.Invariant.{Held, Distinct}
 

@@ -12,8 +12,7 @@ use Rattle.law.specs.declared.stage.Stage.{Stage}
 use Rattle.law.specs.declared.stage.Stage.TheVariants.{Closed, Arriving, Sending}
 use Rattle.arbiters.specs.Meaning.{Meaning, Lawful as Rules}
 use Rattle.law.specs.View.{pairs}
-use Rattle.law.specs.Calls.{is_empty, number}
-use Rattle.law.specs.Runs.{decide}
+use Rattle.law.specs.Calls.{is_empty}
 use Rattle.law.specs.History.{Effect, deciding, closing, accepted, sent, served, closings, waits, waiting, state_after, grants_at, with_input, with_output}
 use Rattle.law.specs.Law.{Matched}
 use Rattle.law.proofs.Counts.{times, times-input, times-output}

@@ -9,8 +9,7 @@ use Rattle.law.specs.declared.stage.Stage.{Stage}
 use Rattle.law.specs.declared.stage.Stage.TheVariants.{Sending}
 use Rattle.arbiters.specs.Meaning.{Meaning, Lawful as Rules}
 use Rattle.law.specs.View.{leaving}
-use Rattle.law.specs.Calls.{number}
-use Rattle.law.specs.History.{Effect, Departure, departing, both, accepted, sent, served, closings, waits}
+use Rattle.law.specs.History.{Effect, Departure, departing, both, accepted, sent, served, closings}
 use Rattle.law.proofs.Counts.{times}
 use Rattle.law.proofs.Histories.{sent-more}
 use Rattle.law.proofs.Invariant.{Held, Distinct, pending, load, Due, Invariant, nothing-kept, kept_more}

@@ -9,8 +9,7 @@ use Rattle.law.specs.declared.stage.Stage.{Stage}
 use Rattle.law.specs.declared.stage.Stage.TheVariants.{Closed, Arriving, Sending}
 use Rattle.arbiters.specs.Meaning.{Meaning}
 use Rattle.law.specs.View.{Memory, View, place, leaving, pairs}
-use Rattle.law.specs.Calls.{number}
-use Rattle.law.specs.History.{Effect, Acceptance, deciding, closing, route_of, accepted, sent, served, closings, decisions, waits, waiting, state_after, grants_at}
+use Rattle.law.specs.History.{Effect, Acceptance, deciding, route_of, accepted, sent, served, closings, decisions, waits, waiting, state_after, grants_at}
 use Rattle.law.specs.Law.{ByRoute, Matched}
 use Rattle.law.proofs.Counts.{times, count}
 use Rattle.law.proofs.Histories.{Each, each_more}

@@ -1,5 +1,5 @@
 -- The pairs of a table of n ports: their outputs are below n, and where no input is in two of them they are at most n.
-use Rattle.std.proofs.Common.{◌≡◌, ℕ, zero, suc, ◌+◌, ◌<◌, ◌≤◌, Bool, true, false, cond, List, [], ◌∷◌, ◌++◌, length, refl, ap, inl, inr, arith, length-append}
+use Rattle.std.proofs.Common.{◌≡◌, ℕ, zero, suc, ◌<◌, ◌≤◌, Bool, true, cond, List, [], ◌∷◌, ◌++◌, length, ap, inl, inr, arith, length-append}
 use Rattle.std.proofs.lemmas.Bool.{cond_both, cases_Bool, cases_lt}
 use Rattle.arbiters.specs.Rules.{Apart}
 use Rattle.pairs.specs.declared.table.Table.{Table}

@@ -13,7 +13,7 @@ use Rattle.law.specs.declared.stage.Stage.TheVariants.{Closed, Arriving, Sending
 use Rattle.arbiters.specs.Meaning.{Meaning, Lawful as Rules}
 use Rattle.law.specs.View.{Memory, View, place, leaving, part, parted}
 use Rattle.law.specs.Calls.{Outcome, Ticket, refused, is_empty, same_stage, beyond, pair_beyond, cells_amiss, notes_amiss, bytes_amiss, not53, wrong, head_block, rerouted, stored, routed, noted, sent_first, oldest, set_route_call, remove_route_call, open_call, arrive_call, decide_call, depart_call, close_call, take_note_call, look_call, line_call}
-use Rattle.law.specs.Runs.{Call, set_route, remove_route, open_slot, arrive, decide, depart, close, take_note, look, line, Answer, IsRefused, outcome, next}
+use Rattle.law.specs.Runs.{Call, set_route, remove_route, open_slot, arrive, decide, depart, close, take_note, look, line, Answer, IsRefused, outcome}
 use Rattle.law.specs.History.{Effect, effect_of}
 use Rattle.law.proofs.Refusing.{by-unless}
 use Rattle.law.proofs.Invariant.{InvariantAt}

@@ -1,6 +1,6 @@
 -- The ten calls, each by one definition of all its cases: from the switch, the memory lent and the arguments to the
 -- answer, the switch and the memory afterwards.
-use Rattle.std.specs.Prelude.{ℕ, ◌+◌, ◌-◌, ◌*◌, Bool, true, false, cond, not, ◌&&◌, List, [], ◌∷◌, length, set, Some, None, Ok, Err, Option, Result, ◌==◌, nat_lt, slice_index, slice_index_or, slice_set}
+use Rattle.std.specs.Prelude.{ℕ, ◌+◌, ◌-◌, ◌*◌, Bool, true, false, cond, not, ◌&&◌, List, [], ◌∷◌, length, Some, None, Ok, Err, Option, Result, ◌==◌, nat_lt, slice_index, slice_index_or, slice_set}
 use Rattle.cells.specs.Header.{vci_of, is_idle}
 use Rattle.pairs.specs.declared.table.Table.{Table}
 use Rattle.pairs.specs.Tables.{table_of}

@@ -1,5 +1,5 @@
 -- Bytes spelled in upper case read back, and wide numbers come back from their bytes.
-use Rattle.std.proofs.Common.{◌≡◌, ℕ, suc, ◌+◌, ◌-◌, ◌*◌, ◌/◌, ◌%◌, ◌<◌, true, false, ◌&&◌, ltb, leb, List, [], ◌∷◌, length, get_or, Ok, sym, refl, ap, ◌∙◌, ap₂, inl, inr, mod-eq_of_lt, arith}
+use Rattle.std.proofs.Common.{◌≡◌, ℕ, suc, ◌+◌, ◌-◌, ◌*◌, ◌/◌, ◌%◌, ◌<◌, true, false, ◌&&◌, ltb, leb, List, [], ◌∷◌, length, get_or, Ok, sym, refl, ◌∙◌, ap₂, inl, inr, mod-eq_of_lt, arith}
 use native.Mathlib.Nat.{div-div-eq-div-mul}
 use Rattle.std.proofs.lemmas.Bool.{lt-ltb, le-ltb, le-leb, lt-leb, cases_lt, and_from, and_right}
 use Rattle.lines.specs.Hex.{digit, front, hex}

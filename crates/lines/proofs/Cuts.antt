@@ -1,12 +1,12 @@
 -- However an input is cut into pieces, a reader's answers are what its lines say.
-use Rattle.std.proofs.Common.{◌≡◌, ℕ, zero, suc, ◌+◌, ◌<◌, ◌≤◌, Bool, true, false, cond, eqb, ltb, List, [], ◌∷◌, ◌++◌, length, take, drop, sym, refl, ap, ◌∙◌, ap₂, inl, inr, append_assoc, append-nil, arith}
+use Rattle.std.proofs.Common.{◌≡◌, ℕ, suc, ◌+◌, ◌<◌, ◌≤◌, Bool, true, false, cond, eqb, ltb, List, [], ◌∷◌, ◌++◌, length, take, drop, sym, refl, ap, ◌∙◌, ap₂, inl, inr, append_assoc, append-nil, arith}
 use lib.Dec.{eqb-suc-zero}
 use Rattle.std.proofs.lemmas.List.{take_all, drop_all, length-take-le}
 use Rattle.std.proofs.lemmas.Bool.{lt-ltb, ltb-true, ltb-false, cases_Bool, cases_lt, cases_eq, eq-eqb, ne_eqb}
 use Rattle.lines.specs.Frames.{frame_of}
 use Rattle.lines.specs.declared.reader.SlotLine.{SlotLine}
 use Rattle.lines.specs.declared.reader.Fed.{Fed}
-use Rattle.lines.specs.Lines.{lines_after, lines, up_to, ends}
+use Rattle.lines.specs.Lines.{lines_after, up_to, ends}
 use Rattle.lines.specs.Reading.{Reading, Reads, ended, piece, after, fed, last, as_list, numbered, next, line_of, fresh, still, AnyCut}
 use Rattle.lines.proofs.Ending.{up_to-other, up_to-end, up_to-none, take-take-append}
 

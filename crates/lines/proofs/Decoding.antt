@@ -2,7 +2,7 @@
 use Rattle.std.proofs.Common.{◌≡◌, ℕ, ◌+◌, ◌*◌, ◌<◌, ◌≤◌, true, false, cond, ◌&&◌, eqb, ltb, ◌⊎◌, List, [], ◌∷◌, ◌++◌, length, get_or, take, drop, set, Ok, Err, Result, sym, refl, ap, ◌∙◌, inl, inr, append_assoc, append-nil, arith}
 use Rattle.std.proofs.lemmas.List.{drop_more, drop_all, take_more_set}
 use Rattle.std.proofs.lemmas.Bool.{lt-ltb, le-ltb, eq-eqb, ne_eqb, cases_eq, and_from, and_left, and_right}
-use Rattle.lines.specs.Hex.{digit, is_digit, front, pair, pairs, hex}
+use Rattle.lines.specs.Hex.{digit, is_digit, front, pairs, hex}
 
 -- what was decoded before goes before what is left
 abbrev pub before : List ℕ → Result (List ℕ) ℕ → Result (List ℕ) ℕ

@@ -1,5 +1,5 @@
 -- A line is read just where it spells bytes.
-use Rattle.std.proofs.Common.{◌≡◌, ℕ, ◌+◌, ◌*◌, ◌<◌, true, eqb, ltb, List, [], ◌∷◌, Ok, Err, Result, sym, refl, ap, ◌∙◌, subst, inl, inr, arith}
+use Rattle.std.proofs.Common.{◌≡◌, ℕ, ◌+◌, ◌*◌, ◌<◌, eqb, List, [], ◌∷◌, Ok, Err, Result, sym, refl, ap, ◌∙◌, subst, inl, inr, arith}
 use Rattle.std.proofs.lemmas.Bool.{ltb-true, eqb-true, cases_Bool}
 use Rattle.lines.specs.Hex.{digit, is_digit, front, pair, pairs, hex}
 use Rattle.lines.specs.Spelled.{Pairs, one, next, spaced, Spelled, nothing, pairs_of, OneReading}

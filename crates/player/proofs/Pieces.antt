@@ -1,5 +1,5 @@
 -- However an input is cut into pieces, what is written for it is the same.
-use Rattle.std.proofs.Common.{◌≡◌, ℕ, List, [], ◌∷◌, ◌++◌, drop, IfOk, Some, None, Ok, Err, Option, Result, sym, refl, ap, ◌∙◌, append_assoc, append-nil}
+use Rattle.std.proofs.Common.{◌≡◌, ℕ, List, [], ◌++◌, drop, IfOk, Some, None, Ok, Err, Option, Result, sym, refl, ap, ◌∙◌, append_assoc, append-nil}
 use Rattle.lines.specs.declared.reader.SlotLine.{SlotLine}
 use Rattle.lines.specs.Reading.{fed, after, last, still, as_list}
 use Rattle.lines.proofs.Cuts.{step, stop}

@@ -1,5 +1,5 @@
 -- An arbiter that was just made is the one that the definition names.
-use Rattle.std.proofs.Common.{◌≡◌, ℕ, ◌*◌, ◌<◌, ◌≤◌, Ok, Result, sym, refl, ap, ◌∙◌, subst}
+use Rattle.std.proofs.Common.{◌≡◌, ℕ, ◌*◌, ◌<◌, ◌≤◌, Ok, Result, sym, ap, ◌∙◌, subst}
 use native.Mathlib.Bridge.{le_prop}
 use native.Mathlib.Decide.{dec_le}
 use Rattle.arbiters.specs.declared.diagonal.Diagonal.{Diagonal}

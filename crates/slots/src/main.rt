@@ -4,6 +4,7 @@
 
 use anyhow::anyhow;
 use player::Player;
+use std::alloc::Global;
 use std::env;
 use std::io::{BufRead, BufReader, Read, Write};
 
@@ -50,12 +51,13 @@ fn play_chunk<W: Write>(
 
 /// Plays all input.
 fn play_all<R: Read + Drop, W: Write>(
+    alloc: Global,
     input: R,
     mut player: Player,
     gathered: &mut Vec<u8>,
     out: &mut W,
 ) -> anyhow::Result<()> {
-    let mut input = BufReader::new(input);
+    let mut input = BufReader::new(alloc, input)?;
     for _ in 0..u64::MAX {
         let chunk = input.fill_buf()?;
         let size = chunk.len();
@@ -72,7 +74,13 @@ fn play_all<R: Read + Drop, W: Write>(
 fn play(rt: &HostRuntime) -> anyhow::Result<()> {
     let mut out = rt.stdout();
     let mut gathered = Vec::with_capacity(rt.alloc(), 2 * FULL)?;
-    let answer = play_all(rt.stdin(), Player::new(rt.alloc()), &mut gathered, &mut out);
+    let answer = play_all(
+        rt.alloc(),
+        rt.stdin(),
+        Player::new(rt.alloc()),
+        &mut gathered,
+        &mut out,
+    );
     write_out(&mut gathered, &mut out)?;
     out.flush()?;
     answer

@@ -27,7 +27,7 @@ impl Player {
     /// Uses a piece of the recording up to its first 0A, or to its end; a line that ends there is played, and what is answered
     /// to it is added to `out`. Says how much of the piece was used. After an error, for want of memory, the player is of no use.
     pub fn feed(&mut self, piece: &[u8], out: &mut Vec<u8>) -> Result<usize, AllocError>
-        ensures used { made result (λ n. n ≡ (fed (held self.old).reading piece.now).used) }
+        ensures used { IfOk result (λ n. n ≡ (fed (held self.old).reading piece.now).used) }
         ensures played { OnOk result (Does (piece_played (held self.old) piece.now) (held self.new) out.old.items out.new.items) }
         ensures within { IfOk result (λ n. n ≤ length piece.now) }
         ensures forward { IfOk result (λ n. 0 < length piece.now → 0 < n) }

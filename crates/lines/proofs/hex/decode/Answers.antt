@@ -1,4 +1,4 @@
-use Rattle.std.proofs.Common.{◌≡◌, ℕ, ◌+◌, ◌*◌, ◌⊎◌, List, length, get_or, take, drop, set, Result, sym, ap, ◌∙◌, inl, inr, arith, length-set}
+use Rattle.std.proofs.Common.{◌≡◌, ℕ, ◌+◌, ◌*◌, ◌⊎◌, List, get_or, take, drop, Result, sym, ap, ◌∙◌, inl, inr, arith, length-set}
 use Rattle.lines.specs.Hex.{digit, pairs}
 use Rattle.lines.proofs.Decoding.{before, at-digit, past-space, no-pair, ends-at-high, ends-short, ends-at-low, ends-missing, turn, whole, Here}
 use Rattle.lines.proofs.hex.decode.Goals as goal

@@ -1,5 +1,5 @@
-use Rattle.std.proofs.Common.{◌<◌, get_or, ap, ◌∙◌, zero-add, rules}
-use Rattle.lines.proofs.Table.{values, get_or-values}
+use Rattle.std.proofs.Common.{◌<◌, ap, ◌∙◌, zero-add, rules}
+use Rattle.lines.proofs.Table.{get_or-values}
 use Rattle.lines.specs.Hex.{digit}
 use Rattle.lines.proofs.hex.value.Goals as goal
 

@@ -1,4 +1,4 @@
-use Rattle.std.proofs.Common.{vec_items, refl}
+use Rattle.std.proofs.Common.{vec_items}
 use Rattle.player.proofs.Appending.{appended}
 use Rattle.player.proofs.writing.write_ended.Goals as goal
 
