@@ -4,4 +4,4 @@
 . "$(dirname "$0")/common.sh"
 times=${1:-5000000}
 build bench_arbiters arbiters
-python3 bench/arbiters.py "$times" target/bin/bench_arbiters "$work/arbiters"
+python3 bench/arbiters.py "$times" crates/bench_arbiters/out/bench_arbiters "$work/arbiters"

@@ -4,8 +4,8 @@ cd "$(dirname "$0")/.."
 work=$(mktemp -d)
 trap 'rm -rf "$work"' EXIT
 
-# build CRATE PLAIN: makes target/bin/CRATE, and $work/PLAIN of bench/PLAIN.rs
+# build CRATE PLAIN: proves CRATE and makes crates/CRATE/out/CRATE, and $work/PLAIN of bench/PLAIN.rs
 build() {
-    rt check "$1" > "$work/check.log" || { tail "$work/check.log"; exit 1; }
+    (cd "crates/$1" && rt run < /dev/null > "$work/run.log" 2>&1) || { tail "$work/run.log"; exit 1; }
     rustc -O --edition 2024 -o "$work/$2" "bench/$2.rs"
 }

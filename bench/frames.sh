@@ -3,4 +3,4 @@
 . "$(dirname "$0")/common.sh"
 build frames frames
 python3 bench/recording.py 50000000 1 > "$work/recording"
-python3 bench/ratio.py 'frames, 50 MB' "$work/recording" 5 -- target/bin/frames -- "$work/frames"
+python3 bench/ratio.py 'frames, 50 MB' "$work/recording" 5 -- crates/frames/out/frames -- "$work/frames"

@@ -3,4 +3,4 @@
 . "$(dirname "$0")/common.sh"
 calls=${1:-100000000}
 build bench_queues queues
-python3 bench/ratio.py "queues, $calls joins and takes" - 3 -- target/bin/bench_queues "$calls" -- "$work/queues" "$calls"
+python3 bench/ratio.py "queues, $calls joins and takes" - 3 -- crates/bench_queues/out/bench_queues "$calls" -- "$work/queues" "$calls"

@@ -5,5 +5,5 @@
 build slots slots
 for arbiter in '1 diagonal' '2 ripple'; do
     python3 bench/recording.py 50000000 "${arbiter%% *}" > "$work/recording"
-    python3 bench/ratio.py "slots, 50 MB, ${arbiter#* }" "$work/recording" 5 -- target/bin/slots -- "$work/slots"
+    python3 bench/ratio.py "slots, 50 MB, ${arbiter#* }" "$work/recording" 5 -- crates/slots/out/slots -- "$work/slots"
 done

@@ -4,4 +4,4 @@
 . "$(dirname "$0")/common.sh"
 slots=${1:-2000000}
 build bench_switch switch
-python3 bench/ratio.py "switch, $slots slots" - 3 -- target/bin/bench_switch "$slots" -- "$work/switch" "$slots"
+python3 bench/ratio.py "switch, $slots slots" - 3 -- crates/bench_switch/out/bench_switch "$slots" -- "$work/switch" "$slots"
