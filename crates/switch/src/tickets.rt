@@ -1,5 +1,7 @@
 //! The tickets of a slot: an arrival ticket while cells may arrive, a grant ticket while the grants are sent.
 
+ghost use Rattle.switch.specs.Spent.{IsSpent};
+
 use refusals::Refusal;
 
 /// Lets cells arrive in a slot. It goes into `decide`; one that is let go leaves its slot open.
@@ -9,24 +11,30 @@ pub struct ArrivalTicket {
     pub(crate) slot: u32,
 }
 
-/// Lets the grants of a slot be sent. Only `close` spends it: a program that lets one go is not proved.
+/// Lets the grants of a slot be sent. Only `close` spends it, and none that is handed out is spent: a program that lets one go is
+/// not proved.
 pub struct GrantTicket {
     pub(crate) mark: u32,
     pub(crate) slot: u32,
+    pub(crate) spent: bool,
 }
 
 impl Drop for GrantTicket {
     fn drop(self)
-        requires { ⊥ }
+        requires { IsSpent self }
     {
-        let GrantTicket { mark: _, slot: _ } = self;
+        let GrantTicket {
+            mark: _,
+            slot: _,
+            spent: _,
+        } = self;
     }
 }
 
 impl GrantTicket {
-    /// Spends the ticket.
-    pub(crate) fn spend(self) {
-        let GrantTicket { mark: _, slot: _ } = self;
+    /// Spends the ticket, so that it may be let go, and lets it go.
+    pub(crate) fn spend(mut self) {
+        self.spent = true;
     }
 }
 

@@ -1,10 +1,11 @@
 //! A slot from its opening to its close.
 
-ghost use Rattle.std.specs.Prelude.{◌≡◌, ◌≤◌, not, length};
+ghost use Rattle.std.specs.Prelude.{◌≡◌, ◌≤◌, not, length, IfOk};
 ghost use Rattle.law.specs.Calls.{requests, wrong};
 ghost use Rattle.law.specs.View.{pairs};
 ghost use Rattle.switch.specs.Ready.{Within};
 ghost use Rattle.switch.specs.Seen.{Closes, Decides, HandsBack, Opens, meaning, view};
+ghost use Rattle.switch.specs.Spent.{IsSpent};
 
 use super::Switch;
 use crate::tickets::{ArrivalTicket, GrantTicket, Returned};
@@ -42,6 +43,7 @@ impl<A: Arbiter> Switch<A> {
     pub fn decide(&mut self, ticket: ArrivalTicket) -> Result<GrantTicket, Returned<ArrivalTicket>>
         ensures done { Decides (meaning A.Arbiter.ports A.Arbiter.bound A.Arbiter.wait A.Arbiter.answer A.Arbiter.after) self.old ticket result self.new }
         ensures back { HandsBack ticket result }
+        ensures unspent { IfOk result (λ t. IsSpent t → ⊥) }
     {
         if !self.fits(ticket.mark, ticket.slot, Stage::Arriving) {
             return Err(Returned {
@@ -56,7 +58,11 @@ impl<A: Arbiter> Switch<A> {
         self.grants = grants;
         self.sent = Ports::empty();
         self.stage = Stage::Sending;
-        Ok(GrantTicket { mark, slot })
+        Ok(GrantTicket {
+            mark,
+            slot,
+            spent: false,
+        })
     }
 
     /// Closes the slot, all of whose grants have been sent. Refused, the ticket comes back.

@@ -34,4 +34,5 @@ returns g c =
           (not-true (wrong v Arriving t) (sym c.fits.ensures ∙ c.if-not-fits.false))
           c.requests-requests.ensures c.decide-grants.ensures.answer c.decide-grants.ensures.after c.count-self.ensures (inside-none c.empty-self.result c.empty-self.ensures);
       back = tt;
+      unspent = λ spent. cc;
     }
