@@ -3,7 +3,6 @@
 
 mod listing;
 
-use anyhow::anyhow;
 use lines::LineReader;
 use listing::list;
 use std::io::{BufRead, BufReader, BufWriter, Read, Write};
@@ -56,9 +55,9 @@ fn list_all(rt: &HostRuntime) -> anyhow::Result<()> {
 
 fn run(rt: &HostRuntime) -> anyhow::Result<()> {
     match env::args(rt)?.nth(1) {
-        None => list_all(rt),
         Some(word) if word.as_str() == "--help" => Ok(rt.print(HELP)?),
-        Some(_) => Err(anyhow!("the only argument is --help")),
+        // Another argument says nothing to it.
+        _ => list_all(rt),
     }
 }
 
