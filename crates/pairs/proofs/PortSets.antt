@@ -1,13 +1,13 @@
 -- What a set made of a function holds, and the first port of a set.
-use Rattle.std.proofs.Common.{◌≡◌, ℕ, zero, suc, ◌+◌, ◌-◌, ◌*◌, ◌/◌, ◌%◌, ◌^◌, ◌<◌, ◌≤◌, Bool, true, false, not, ◌&&◌, ◌||◌, ltb, leb, ◌⊎◌, sym, refl, ap, ◌∙◌, ap₂, inl, inr, arith}
+use Rattle.std.proofs.Common.{◌≡◌, ℕ, zero, suc, ◌+◌, ◌-◌, ◌/◌, ◌%◌, ◌^◌, ◌<◌, ◌≤◌, Bool, true, false, not, ◌&&◌, ◌||◌, ltb, leb, ◌⊎◌, sym, refl, ap, ◌∙◌, ap₂, inl, inr, arith}
 use lib.Bits.{bit_and, bit_or, or_lt, and_le_l}
-use lib.Count.{count_trailing_zeros}
+use Rattle.std.specs.Int.{rotate_right, trailing_zeros, w8}
 use Rattle.std.proofs.lemmas.Nat.{pow_below, shr_le}
-use Rattle.std.proofs.lemmas.Bool.{and_left, and_parts, and_right, both_ways, cases_lt, le-leb, le-ltb, lt-leb, lt-ltb, ltb-true, ne_eqb}
+use Rattle.std.proofs.lemmas.Bool.{and_left, and_parts, and_right, both_ways, cases_eq, cases_lt, le-leb, le-ltb, lt-leb, lt-ltb, ltb-true, ne_eqb}
 use Rattle.pairs.specs.declared.ports.Ports.{Ports}
 use Rattle.pairs.specs.Words.{bit, word}
 use Rattle.pairs.specs.Tables.{ahead, inside, joined, ports_of, removed}
-use Rattle.pairs.proofs.Bits.{bit_word, word-ext, word-is, bit-or, bit-and, bit_not, bit-pow, bit-shl, bit-shr, bit_high, bit-zero, lowest_set, none_below}
+use Rattle.pairs.proofs.Bits.{bit_word, word-ext, word-is, bit-or, bit-and, bit_not, bit-pow, bit-shl, bit-shr, bit_high, bit-zero, lowest_set}
 
 abbrev pub made : ℕ → Ports
 made x = record { bits = x }
@@ -76,7 +76,7 @@ module _ (p : Ports) (x : ℕ) (l : p.bits < 2 ^ 8) where
   removed-is h =
       ports_of-is (removed (inside p) x) (bit_and p.bits (255 - 2 ^ x)) (omega (arith, and_le_l p.bits (255 - 2 ^ x)))
       (λ k m. bit-and p.bits (255 - 2 ^ x) k ∙ and_comm (bit p.bits k) (bit (255 - 2 ^ x) k)
-      ∙ ap₂ ◌&&◌ (bit_not 8 (2 ^ x) k (pow_below x 8 h) m ∙ ap not (bit-pow x k)) (sym (inside-bit p k m)))
+      ∙ ap₂ ◌&&◌ (bit_not w8 (2 ^ x) k (pow_below x 8 h) m ∙ ap not (bit-pow x k)) (sym (inside-bit p k m)))
 
 pub and_is : (p q : Ports) → p.bits < 2 ^ 8 → made (bit_and p.bits q.bits) ≡ ports_of (λ x. inside p x && inside q x)
 and_is p q l =
@@ -87,71 +87,67 @@ pub none_inside : (p : Ports) → p.bits ≡ 0 → (x : ℕ) → inside p x ≡ 
 unfolding inside
 none_inside p e x = and_right (ltb x 8) _ (ap (λ (y : ℕ). bit y x) e ∙ bit-zero x)
 
--- ---- the first port from one on: two rounds of the byte, one after the other
-abbrev rounds : ℕ → ℕ
-rounds b = bit_or b ((b * 2 ^ 8) % 2 ^ 16)
-
+-- ---- the first port from one on, which is the lowest of the byte turned by as many places
 module _ (p : Ports) (start : ℕ) (some-bit : 0 < p.bits) (l : p.bits < 2 ^ 8) where
-  around : (m : ℕ) → m < 16 → bit (rounds p.bits) m ≡ inside p (m % 8)
-  around m h = bit-or p.bits _ m ∙ ap (λ (c : Bool). bit p.bits m || c) (bit-shl p.bits 8 16 m h) ∙ go (cases_lt m 8)
+  abbrev turned : ℕ
+  turned = rotate_right w8 p.bits (start % 8)
+
+  turned-bit : (m : ℕ) → m < 8 → bit turned m ≡ inside p ((start % 8 + m) % 8)
+  turned-bit m h =
+      bit-or (p.bits / 2 ^ (start % 8 % 8)) _ m
+      ∙ ap₂ ◌||◌ (bit-shr p.bits (start % 8 % 8) m) (bit-shl p.bits ((8 - start % 8 % 8) % 8) 8 m h)
+      ∙ go (start % 8 % 8) (omega arith) (cases_lt (start % 8 % 8 + m) 8) (cases_eq (start % 8 % 8) 0)
+      ∙ sym (inside-bit p ((start % 8 + m) % 8) (omega arith))
     where
-      go : (m < 8) ⊎ (8 ≤ m) → (bit p.bits m || (leb 8 m && bit p.bits (m - 8))) ≡ inside p (m % 8)
-      go (inl a) =
-          let e : m ≡ m % 8 = omega arith in
-          ap (λ (c : Bool). bit p.bits m || c) (and_left (leb 8 m) _ (lt-leb 8 m a)) ∙ or_comm (bit p.bits m) false
-          ∙ sym (inside-bit p m a) ∙ ap (inside p) e
-      go (inr a) =
-          let e : m - 8 ≡ m % 8 = omega arith in
-          ap₂ (λ (b c : Bool). b || (c && bit p.bits (m - 8))) (bit_high p.bits 8 m l a) (le-leb 8 m a)
-          ∙ sym (inside-bit p (m - 8) (omega arith)) ∙ ap (inside p) e
+      same : (b : Bool) → (b || b) ≡ b
+      same true = refl
+      same false = refl
 
-  in_window : (m : ℕ) → start % 8 + m < 16 → bit (rounds p.bits / 2 ^ (start % 8)) m ≡ inside p ((start % 8 + m) % 8)
-  in_window m h = bit-shr (rounds p.bits) (start % 8) m ∙ around (start % 8 + m) h
+      go : (s : ℕ) → s ≡ start % 8 → (s + m < 8) ⊎ (8 ≤ s + m) → (s ≡ 0) ⊎ (s ≡ 0 → ⊥)
+          → (bit p.bits (s + m) || (leb ((8 - s) % 8) m && bit p.bits (m - (8 - s) % 8))) ≡ bit p.bits ((start % 8 + m) % 8)
+      go s e (inl a) (inl z) =
+          let first : s + m ≡ (start % 8 + m) % 8 = omega arith in
+          let again : m - (8 - s) % 8 ≡ (start % 8 + m) % 8 = omega arith in
+          ap₂ ◌||◌ (ap (bit p.bits) first) (ap₂ ◌&&◌ (le-leb ((8 - s) % 8) m (omega arith)) (ap (bit p.bits) again)) ∙ same (bit p.bits ((start % 8 + m) % 8))
+      go s e (inl a) (inr z) =
+          let first : s + m ≡ (start % 8 + m) % 8 = omega arith in
+          ap₂ ◌||◌ (ap (bit p.bits) first) (and_left (leb ((8 - s) % 8) m) _ (lt-leb ((8 - s) % 8) m (omega arith))) ∙ or_comm (bit p.bits ((start % 8 + m) % 8)) false
+      go s e (inr a) _ =
+          let again : m - (8 - s) % 8 ≡ (start % 8 + m) % 8 = omega arith in
+          ap₂ ◌||◌ (bit_high p.bits 8 (s + m) l a) (ap₂ ◌&&◌ (le-leb ((8 - s) % 8) m (omega arith)) (ap (bit p.bits) again))
 
-  seen : (x : ℕ) → inside p x ≡ true → bit (rounds p.bits / 2 ^ (start % 8)) (ahead start x) ≡ true
+  seen : (x : ℕ) → inside p x ≡ true → bit turned (ahead start x) ≡ true
   seen x h =
       let b : x < 8 = inside-below p x h in
       let e : (start % 8 + ahead start x) % 8 ≡ x = omega arith in
-      in_window (ahead start x) (omega arith) ∙ ap (inside p) e ∙ h
+      turned-bit (ahead start x) (omega arith) ∙ ap (inside p) e ∙ h
 
-  low_bit : (count_trailing_zeros 8 p.bits < 8) × (bit p.bits (count_trailing_zeros 8 p.bits) ≡ true)
-  low_bit = lowest_set 8 p.bits some-bit l
-
-  window-some : 0 < rounds p.bits / 2 ^ (start % 8)
-  window-some = go (rounds p.bits / 2 ^ (start % 8)) refl
+  turned-some : 0 < turned
+  turned-some = go turned refl
     where
-      go : (w : ℕ) → rounds p.bits / 2 ^ (start % 8) ≡ w → 0 < rounds p.bits / 2 ^ (start % 8)
+      go : (t : ℕ) → turned ≡ t → 0 < turned
       go zero e =
-          let x : ℕ = count_trailing_zeros 8 p.bits in
-          absurd (both_ways _ (ap (λ (y : ℕ). bit y (ahead start x)) e ∙ bit-zero (ahead start x)) (seen x (inside-bit p x low_bit.0 ∙ low_bit.1)))
-      go (suc w) e = omega arith
+          let low = lowest_set w8 p.bits some-bit l in
+          let x : ℕ = trailing_zeros w8 p.bits in
+          absurd (both_ways _ (ap (λ (y : ℕ). bit y (ahead start x)) e ∙ bit-zero (ahead start x)) (seen x (inside-bit p x low.0 ∙ low.1)))
+      go (suc t) e = omega arith
 
-  window-lt : rounds p.bits / 2 ^ (start % 8) < 2 ^ 16
-  window-lt =
-      omega (arith, shr_le (rounds p.bits) (start % 8), or_lt 16 p.bits ((p.bits * 2 ^ 8) % 2 ^ 16) (omega arith) (omega arith))
+  turned-lt : turned < 2 ^ 8
+  turned-lt = or_lt 8 (p.bits / 2 ^ (start % 8 % 8)) _ (omega (arith, shr_le p.bits (start % 8 % 8))) (omega arith)
 
-  abbrev z : ℕ
-  z = count_trailing_zeros 16 (rounds p.bits / 2 ^ (start % 8))
+  pub next-lt : trailing_zeros w8 turned < 8
+  next-lt = (lowest_set w8 turned turned-some turned-lt).0
 
-  least : (x : ℕ) → inside p x ≡ true → z ≤ ahead start x
-  least x h = go (cases_lt (ahead start x) z)
+  pub next-inside : inside p ((start % 8 + trailing_zeros w8 turned) % 8) ≡ true
+  next-inside = sym (turned-bit (trailing_zeros w8 turned) next-lt) ∙ (lowest_set w8 turned turned-some turned-lt).1
+
+  pub next-least : (x : ℕ) → inside p x ≡ true → ahead start ((start % 8 + trailing_zeros w8 turned) % 8) ≤ ahead start x
+  next-least x h = go (cases_lt (ahead start x) (trailing_zeros w8 turned))
     where
-      go : (ahead start x < z) ⊎ (z ≤ ahead start x) → z ≤ ahead start x
-      go (inr m) = m
-      go (inl m) = absurd (both_ways _ (none_below 16 (rounds p.bits / 2 ^ (start % 8)) (ahead start x) m) (seen x h))
+      z : ahead start ((start % 8 + trailing_zeros w8 turned) % 8) ≡ trailing_zeros w8 turned
+      z = let a : trailing_zeros w8 turned < 8 = next-lt in omega arith
 
-  pub ahead-lt : count_trailing_zeros 16 (rounds p.bits / 2 ^ (start % 8)) < 8
-  ahead-lt =
-      let x : ℕ = count_trailing_zeros 8 p.bits in
-      omega (arith, least x (inside-bit p x low_bit.0 ∙ low_bit.1))
-
-  pub next-inside : inside p ((start % 8 + count_trailing_zeros 16 (rounds p.bits / 2 ^ (start % 8))) % 8) ≡ true
-  next-inside =
-      let a : z < 8 = ahead-lt in
-      sym (in_window z (omega arith)) ∙ (lowest_set 16 (rounds p.bits / 2 ^ (start % 8)) window-some window-lt).1
-
-  pub next-least : (x : ℕ) → inside p x ≡ true → ahead start ((start % 8 + count_trailing_zeros 16 (rounds p.bits / 2 ^ (start % 8))) % 8) ≤ ahead start x
-  next-least x h =
-      let a : z < 8 = ahead-lt in
-      let e : ahead start ((start % 8 + z) % 8) ≡ z = omega arith in
-      omega (arith, e, least x h)
+      go : (ahead start x < trailing_zeros w8 turned) ⊎ (trailing_zeros w8 turned ≤ ahead start x)
+          → ahead start ((start % 8 + trailing_zeros w8 turned) % 8) ≤ ahead start x
+      go (inr m) = omega (arith, z)
+      go (inl m) = absurd (both_ways _ ((lowest_set w8 turned turned-some turned-lt).2 (ahead start x) m) (seen x h))

@@ -2,13 +2,14 @@
 use Rattle.std.proofs.Common.{◌≡◌, ℕ, ◌+◌, ◌-◌, ◌*◌, ◌/◌, ◌%◌, ◌^◌, ◌<◌, ◌≤◌, Bool, true, false, not, ◌&&◌, ◌||◌, eqb, leb, ◌⊎◌, sym, refl, ap, ◌∙◌, ap₂, inl, inr, arith}
 use lib.Bits.{bit_and, bit_or, or_lt, and_le_l}
 use lib.Count.{count_trailing_zeros}
-use Rattle.std.proofs.lemmas.Nat.{pow_below}
+use Rattle.std.specs.Int.{w64}
 use Rattle.std.proofs.lemmas.Bool.{and_left, and_right, both_ways, cases_lt, eq-eqb, le-leb, lt-leb, ne_eqb}
-use Rattle.std.proofs.lemmas.Bool.Decides.{nat_tests}
+use Rattle.pairs.specs.declared.ports.Ports.{Ports}
 use Rattle.pairs.specs.declared.table.Table.{Table}
 use Rattle.pairs.specs.Words.{bit, word}
-use Rattle.pairs.specs.Tables.{added, dropped, filled, holds, table_of}
-use Rattle.pairs.proofs.Bits.{bit_word, word_lt, word-ext, word-is, bit-or, bit-and, bit_not, bit-pow, bit-shl, bit_high, bit-zero, lowest_set, none_below}
+use Rattle.pairs.specs.Tables.{added, dropped, filled, holds, inside, joined, ports_of, table_of}
+use Rattle.pairs.proofs.Bits.{bit_word, word_lt, word-ext, word-is, bit-or, bit-and, bit_not, bit-shl, bit_high, lowest_set}
+use Rattle.pairs.proofs.PortSets.{kept, not-inside}
 use Rattle.pairs.proofs.Within.{within-is, within-parts}
 
 abbrev pub made : ℕ → Table
@@ -68,43 +69,34 @@ table-ext s t p q h = table_of-holds s p ∙ table_of-ext (holds s) (holds t) h 
 pub stays : (t : Table) (F : ℕ → ℕ → Bool) → t.bits < 2 ^ 64 → ((x y : ℕ) → x < 8 → y < 8 → holds t x y ≡ F x y) → t ≡ table_of F
 stays t F l h = table_of-holds t l ∙ table_of-ext (holds t) F h
 
--- a pair outside 8 × 8 is none within
-pub outside : (i o x y : ℕ) → x < 8 → y < 8 → (i < 8 → o < 8 → ⊥) → (eqb x i && eqb y o) ≡ false
-outside i o x y p q h = grind (arith, nat_tests)
-
 or_comm : (a b : Bool) → (a || b) ≡ (b || a)
 or_comm true true = refl
 or_comm true false = refl
 or_comm false true = refl
 or_comm false false = refl
 
-place : (k i o : ℕ) → i < 8 → o < 8 → eqb k (i * 8 + o) ≡ (eqb (k / 8) i && eqb (k % 8) o)
-place k i o p q = grind (arith, nat_tests)
+-- ---- the outputs of one input
+pub outputs-hold : (t : Table) (p : Ports) (i o : ℕ) → p ≡ ports_of (holds t i) → inside p o ≡ holds t i o
+outputs-hold t p i o e = elim (cases_lt o 8) [
+  | inl l ↦ kept p (holds t i) e o l
+  | inr l ↦ not-inside p o l ∙ sym (not-held t i o (λ _ m. omega arith))
+]
 
 -- ---- one pair put in, and taken out
-module _ (t : Table) (i o : ℕ) (l : t.bits < 2 ^ 64) where
-  pub added_none : (i < 8 → o < 8 → ⊥) → t ≡ table_of (added (holds t) i o)
-  added_none h = stays t (added (holds t) i o) l (λ x y p q. ap (λ (b : Bool). b || holds t x y) (sym (outside i o x y p q h)))
+no-more : (a b : Bool) → b ≡ false → (a || b) ≡ a
+no-more a b e = or_comm a b ∙ ap (λ (c : Bool). c || a) e
 
-  pub dropped-none : (i < 8 → o < 8 → ⊥) → t ≡ table_of (dropped (holds t) i o)
-  dropped-none h = stays t (dropped (holds t) i o) l (λ x y p q. keeps (holds t x y) (eqb x i && eqb y o) (outside i o x y p q h))
-    where
-      keeps : (a b : Bool) → b ≡ false → a ≡ (a && not b)
-      keeps true b e = ap not (sym e)
-      keeps false b e = refl
+pub added_is : (t : Table) (i o : ℕ) (none one : Ports) → none ≡ ports_of (λ _. false) → one ≡ ports_of (joined (inside none) o)
+    → table_of (filled (holds t) i (inside one)) ≡ table_of (added (holds t) i o)
+added_is t i o none one e f =
+    table_of-ext (filled (holds t) i (inside one)) (added (holds t) i o)
+    (λ x y _ l. ap (λ (b : Bool). (eqb x i && b) || holds t x y) (kept one (joined (inside none) o) f y l ∙ no-more (eqb y o) _ (kept none (λ _. false) e y l)))
 
-  module _ (p : i < 8) (q : o < 8) where
-    pub added_is : made (bit_or t.bits (2 ^ (i * 8 + o))) ≡ table_of (added (holds t) i o)
-    added_is =
-        table_of-is (added (holds t) i o) (bit_or t.bits (2 ^ (i * 8 + o))) (or_lt 64 t.bits (2 ^ (i * 8 + o)) l (pow_below (i * 8 + o) 64 (omega arith)))
-        (λ k m. bit-or t.bits (2 ^ (i * 8 + o)) k ∙ or_comm (bit t.bits k) (bit (2 ^ (i * 8 + o)) k)
-        ∙ ap₂ ◌||◌ (bit-pow (i * 8 + o) k ∙ place k i o p q) (bit-held t k m))
-
-    pub dropped-is : made (bit_and t.bits ((2 ^ 64 - 1) - 2 ^ (i * 8 + o))) ≡ table_of (dropped (holds t) i o)
-    dropped-is =
-        table_of-is (dropped (holds t) i o) (bit_and t.bits ((2 ^ 64 - 1) - 2 ^ (i * 8 + o))) (omega (arith, and_le_l t.bits ((2 ^ 64 - 1) - 2 ^ (i * 8 + o))))
-        (λ k m. bit-and t.bits ((2 ^ 64 - 1) - 2 ^ (i * 8 + o)) k
-        ∙ ap₂ ◌&&◌ (bit-held t k m) (bit_not 64 (2 ^ (i * 8 + o)) k (pow_below (i * 8 + o) 64 (omega arith)) m ∙ ap not (bit-pow (i * 8 + o) k ∙ place k i o p q)))
+pub dropped-is : (t : Table) (i o : ℕ) (none one : Table) → none ≡ table_of (λ _ _. false) → one ≡ table_of (added (holds none) i o)
+    → table_of (λ x y. holds t x y && not (holds one x y)) ≡ table_of (dropped (holds t) i o)
+dropped-is t i o none one e f =
+    table_of-ext (λ x y. holds t x y && not (holds one x y)) (dropped (holds t) i o)
+    (λ x y l m. ap (λ (b : Bool). holds t x y && not b) (held one (added (holds none) i o) f x y l m ∙ no-more (eqb x i && eqb y o) _ (held none (λ _ _. false) e x y l m)))
 
 -- ---- the outputs of one input put in
 module _ (t : Table) (i : ℕ) (l : t.bits < 2 ^ 64) where
@@ -146,19 +138,15 @@ module _ (s t : Table) (p : s.bits < 2 ^ 64) (q : t.bits < 2 ^ 64) where
   pub minus_is : made (bit_and s.bits ((2 ^ 64 - 1) - t.bits)) ≡ table_of (λ i o. holds s i o && not (holds t i o))
   minus_is =
       table_of-is (λ i o. holds s i o && not (holds t i o)) (bit_and s.bits ((2 ^ 64 - 1) - t.bits)) (omega (arith, and_le_l s.bits ((2 ^ 64 - 1) - t.bits)))
-      (λ k m. bit-and s.bits ((2 ^ 64 - 1) - t.bits) k ∙ ap₂ ◌&&◌ (bit-held s k m) (bit_not 64 t.bits k q m ∙ ap not (bit-held t k m)))
+      (λ k m. bit-and s.bits ((2 ^ 64 - 1) - t.bits) k ∙ ap₂ ◌&&◌ (bit-held s k m) (bit_not w64 t.bits k q m ∙ ap not (bit-held t k m)))
 
 -- ---- the first pair
-pub none-held : (t : Table) → t.bits ≡ 0 → (i o : ℕ) → holds t i o ≡ false
-unfolding holds
-none-held t e i o = and_right _ _ (ap (λ (x : ℕ). bit x (i * 8 + o)) e ∙ bit-zero (i * 8 + o))
-
 module _ (t : Table) (some-bit : 0 < t.bits) (l : t.bits < 2 ^ 64) where
   pub first-lt : count_trailing_zeros 64 t.bits < 64
-  first-lt = (lowest_set 64 t.bits some-bit l).0
+  first-lt = (lowest_set w64 t.bits some-bit l).0
 
   pub first-held : holds t (count_trailing_zeros 64 t.bits / 8) (count_trailing_zeros 64 t.bits % 8) ≡ true
-  first-held = sym (bit-held t (count_trailing_zeros 64 t.bits) first-lt) ∙ (lowest_set 64 t.bits some-bit l).1
+  first-held = sym (bit-held t (count_trailing_zeros 64 t.bits) first-lt) ∙ (lowest_set w64 t.bits some-bit l).1
 
   pub first-least : (i o : ℕ) → holds t i o ≡ true → count_trailing_zeros 64 t.bits ≤ i * 8 + o
   first-least i o h = go (cases_lt (i * 8 + o) (count_trailing_zeros 64 t.bits))
@@ -168,4 +156,4 @@ module _ (t : Table) (some-bit : 0 < t.bits) (l : t.bits < 2 ^ 64) where
 
       go : (i * 8 + o < count_trailing_zeros 64 t.bits) ⊎ (count_trailing_zeros 64 t.bits ≤ i * 8 + o) → count_trailing_zeros 64 t.bits ≤ i * 8 + o
       go (inr m) = m
-      go (inl m) = absurd (both_ways _ (none_below 64 t.bits (i * 8 + o) m) (sym (holds-bit t i o b.0 b.1) ∙ h))
+      go (inl m) = absurd (both_ways _ ((lowest_set w64 t.bits some-bit l).2 (i * 8 + o) m) (sym (holds-bit t i o b.0 b.1) ∙ h))

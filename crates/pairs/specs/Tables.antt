@@ -3,7 +3,7 @@
 use Rattle.std.specs.Prelude.{◌≡◌, ℕ, zero, suc, ◌+◌, ◌-◌, ◌*◌, ◌/◌, ◌%◌, ◌≤◌, Bool, true, false, not, ◌&&◌, ◌||◌, Some, None, Option, ◌==◌, nat_lt}
 use Rattle.pairs.specs.declared.ports.Ports.{Ports}
 use Rattle.pairs.specs.declared.table.Table.{Table}
-use Rattle.pairs.specs.Words.{bit, word}
+use Rattle.pairs.specs.Words.{bit, digit, word}
 
 -- F, of the pairs of the first n inputs and outputs alone
 abbrev pub within : ℕ → (ℕ → ℕ → Bool) → ℕ → ℕ → Bool
@@ -33,6 +33,15 @@ filled F i f x y = (x == i && f y) || F x y
 unfoldable pub some : ℕ → (ℕ → Bool) → Bool
 some zero f = false
 some (suc n) f = f n || some n f
+
+-- f 0 + f 1 + .. + f (n - 1)
+unfoldable pub total : ℕ → (ℕ → ℕ) → ℕ
+total zero f = 0
+total (suc n) f = total n f + f n
+
+-- how many pairs the table has
+unfoldable pub size : Table → ℕ
+size t = total 8 (λ i. total 8 (λ o. digit (holds t i o)))
 
 -- whether the input i or the output o is in a pair of the table
 unfoldable pub joint : Table → ℕ → ℕ → Bool

@@ -1,9 +1,10 @@
 -- The bits of a number, and the number of given bits.
-use Rattle.std.specs.Prelude.{ℕ, zero, suc, ◌+◌, ◌-◌, ◌*◌, ◌/◌, ◌%◌, ◌^◌, Bool, true, false, ◌&&◌, ◌||◌, ◌==◌, nat_le}
+use Rattle.std.specs.Prelude.{ℕ, zero, suc, ◌+◌, ◌-◌, ◌*◌, Bool, true, false, ◌&&◌, ◌||◌, ◌==◌, nat_le}
+use Rattle.std.specs.Int.{bit_at}
 
 -- the bit at place k
 unfoldable pub bit : ℕ → ℕ → Bool
-bit x k = x / 2 ^ k % 2 == 1
+bit x k = bit_at x k == 1
 
 abbrev pub digit : Bool → ℕ
 digit true = 1

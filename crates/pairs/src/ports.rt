@@ -5,13 +5,13 @@ ghost use Rattle.pairs.specs.Tables.{NextFrom, inside, joined, ports_of, removed
 ghost use Rattle.pairs.specs.Words.{bit, word};
 
 /// A set of ports. The port x is the bit x; ports of 8 and above are in no set.
-#[derive(Clone, Copy)]
+#[derive(Clone, Copy, PartialEq, Eq, Debug)]
 pub struct Ports {
     bits: u8,
 }
 
-/// How many ports there may be.
-const MOST: usize = 8;
+/// How many ports there may be: inputs, and outputs.
+pub(crate) const MOST: usize = 8;
 
 impl Ports {
     /// The set of no port.
@@ -98,9 +98,8 @@ impl Ports {
         if self.bits == 0 {
             return None;
         }
-        // Two rounds, so that the ports before `start` stand after those from it on.
-        let rounds = self.bits as u16 | (self.bits as u16) << 8;
-        let ahead = (rounds >> (start % MOST)).trailing_zeros() as usize;
-        Some((start % MOST + ahead) % MOST)
+        let start = start % MOST;
+        let ahead = self.bits.rotate_right(start as u32).trailing_zeros() as usize;
+        Some((start + ahead) % MOST)
     }
 }

@@ -1,19 +1,16 @@
 //! A table of pairs: which pairs it holds, and the operations on whole tables.
 
 ghost use Rattle.std.specs.Prelude.{◌≡◌, ℕ, ◌+◌, ◌<◌, false, not, ◌&&◌, ◌||◌, nat_eq, nat_lt};
-ghost use Rattle.pairs.specs.Tables.{First, added, dropped, filled, holds, inside, joint, ports_of, table_of};
+ghost use Rattle.pairs.specs.Tables.{First, added, dropped, filled, holds, inside, joint, ports_of, size, table_of};
 ghost use Rattle.pairs.specs.Words.{bit, paired_bit};
 
-use crate::ports::Ports;
+use crate::ports::{MOST, Ports};
 
 /// A table of pairs. The pair (i, o) is the bit 8 × i + o; pairs outside 8 × 8 are in no table.
-#[derive(Clone, Copy)]
+#[derive(Clone, Copy, PartialEq, Eq, Debug)]
 pub struct Table {
     bits: u64,
 }
-
-/// How many inputs, and how many outputs, a table may hold pairs of.
-const SIDE: usize = 8;
 
 /// The pairs of the first 0, 1, .. 8 inputs and outputs.
 const SQUARES: [u64; 9] = [
@@ -79,59 +76,60 @@ impl Table {
         }
     }
 
+    /// Whether the table has no pair.
+    pub fn is_empty(self) -> bool
+        ensures { result ≡ nat_eq (size self) 0 }
+    {
+        self.bits == 0
+    }
+
+    /// How many pairs the table has.
+    pub fn len(self) -> usize
+        ensures { result ≡ size self }
+    {
+        self.bits.count_ones() as usize
+    }
+
     /// Whether the pair is in the table.
     pub fn has(self, input: usize, output: usize) -> bool
         ensures { result ≡ holds self input output }
     {
-        if input >= SIDE || output >= SIDE {
-            return false;
-        }
-        (self.bits >> (input * SIDE + output)) & 1 == 1
+        self.outputs(input).has(output)
     }
 
     /// The table with the pair put in.
     pub fn with(self, input: usize, output: usize) -> Table
         ensures { result ≡ table_of (added (holds self) input output) }
     {
-        if input >= SIDE || output >= SIDE {
-            return self;
-        }
-        Table {
-            bits: self.bits | (1 << (input * SIDE + output)),
-        }
+        self.with_outputs(input, Ports::empty().with(output))
     }
 
     /// The table without the pair.
     pub fn without(self, input: usize, output: usize) -> Table
         ensures { result ≡ table_of (dropped (holds self) input output) }
     {
-        if input >= SIDE || output >= SIDE {
-            return self;
-        }
-        Table {
-            bits: self.bits & !(1 << (input * SIDE + output)),
-        }
+        self.minus(Table::empty().with(input, output))
     }
 
     /// The outputs that stand in a pair with the input.
     pub fn outputs(self, input: usize) -> Ports
         ensures { result ≡ ports_of (holds self input) }
     {
-        if input >= SIDE {
+        if input >= MOST {
             return Ports::empty();
         }
-        Ports::from_byte(((self.bits >> (input * SIDE)) & 0xff) as u8)
+        Ports::from_byte(((self.bits >> (input * MOST)) & 0xff) as u8)
     }
 
     /// The table with a pair of the input and each of the outputs put in.
     pub fn with_outputs(self, input: usize, outputs: Ports) -> Table
         ensures { result ≡ table_of (filled (holds self) input (inside outputs)) }
     {
-        if input >= SIDE {
+        if input >= MOST {
             return self;
         }
         Table {
-            bits: self.bits | ((outputs.byte() as u64) << (input * SIDE)),
+            bits: self.bits | ((outputs.byte() as u64) << (input * MOST)),
         }
     }
 
@@ -139,11 +137,11 @@ impl Table {
     pub fn first(self) -> Option<(usize, usize)>
         ensures { First self result }
     {
-        if self.bits == 0 {
+        if self.is_empty() {
             return None;
         }
         let place = self.bits.trailing_zeros() as usize;
-        Some((place / SIDE, place % SIDE))
+        Some((place / MOST, place % MOST))
     }
 
     /// The pairs that are in both tables.

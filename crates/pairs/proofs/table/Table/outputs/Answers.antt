@@ -8,8 +8,8 @@ use Rattle.pairs.proofs.PortSets.{ports_of-ext}
 use Rattle.pairs.proofs.Tables.{holds-bit, not-held}
 use Rattle.pairs.proofs.table.Table.outputs.Goals as goal
 
-pub returns-then-input-ge-SIDE : goal.returns-then-input-ge-SIDE
-returns-then-input-ge-SIDE c =
+pub returns-then-input-ge-MOST : goal.returns-then-input-ge-MOST
+returns-then-input-ge-MOST c =
     let fact =
     c.empty.ensures
     ∙ ports_of-ext (λ _. false) (holds c.args.self c.args.input) (λ o h. sym (not-held c.args.self c.args.input o (λ p q. omega arith))) in

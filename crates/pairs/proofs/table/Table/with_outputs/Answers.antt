@@ -4,8 +4,8 @@ use Rattle.pairs.specs.Tables.{inside}
 use Rattle.pairs.proofs.Tables.{made, filled_is, filled_none}
 use Rattle.pairs.proofs.table.Table.with_outputs.Goals as goal
 
-pub returns-then-input-ge-SIDE : goal.returns-then-input-ge-SIDE
-returns-then-input-ge-SIDE c =
+pub returns-then-input-ge-MOST : goal.returns-then-input-ge-MOST
+returns-then-input-ge-MOST c =
     let fact =
     filled_none c.args.self c.args.input (search rules) (inside c.args.outputs) (omega arith) in
     search rules

@@ -1,19 +1,6 @@
-use Rattle.std.proofs.Common.{ℕ, ◌+◌, ◌-◌, ◌*◌, ◌^◌, ap, ◌∙◌, ⊎_elim, arith, rules}
-use lib.Bits.{bit_and}
-use Rattle.std.proofs.lemmas.Nat.{one_shl}
-use Rattle.pairs.proofs.Tables.{made, dropped-is, dropped-none}
+use Rattle.pairs.proofs.Tables.{dropped-is}
+use Rattle.std.proofs.Common.{◌∙◌}
 use Rattle.pairs.proofs.table.Table.without.Goals as goal
 
-pub returns-then-input-ge-SIDE : goal.returns-then-input-ge-SIDE
-returns-then-input-ge-SIDE c =
-    let fact =
-    dropped-none c.args.self c.args.input c.args.output (search rules)
-    (λ p q. ⊎_elim (λ a. omega arith) (λ a. omega arith) c.then-input-ge-SIDE.either) in
-    search rules
-
 pub returns : goal.returns
-returns c =
-    let fact =
-    ap (λ (y : ℕ). made (bit_and c.args.self.bits ((2 ^ 64 - 1) - y))) (one_shl (c.args.input * 8 + c.args.output) 64 (omega arith))
-    ∙ dropped-is c.args.self c.args.input c.args.output (search rules) (omega arith) (omega arith) in
-    search rules
+returns c = c.minus.ensures ∙ dropped-is c.args.self c.args.input c.args.output c.empty.result c.with.result c.empty.ensures c.with.ensures
