@@ -1,11 +1,11 @@
 -- A number below 2 ^ k is the word of its bits, and a word's bits are those that it is made of.
-use Rattle.std.proofs.Common.{◌≡◌, ℕ, zero, suc, ◌+◌, ◌-◌, ◌*◌, ◌/◌, ◌%◌, ◌^◌, ◌<◌, ◌≤◌, Bool, true, false, not, ◌&&◌, ◌||◌, eqb, leb, min, max, sym, refl, ap, ◌∙◌, ap₂, inl, inr, add-zero, le_of_suc-le-suc, not-suc-le-zero, pow-suc, pow_pos, arith}
+use Rattle.std.proofs.Common.{◌≡◌, ℕ, zero, suc, ◌+◌, ◌-◌, ◌*◌, ◌/◌, ◌%◌, ◌^◌, ◌<◌, ◌≤◌, Bool, true, false, not, ◌&&◌, ◌||◌, eqb, leb, ltb, min, max, sym, refl, ap, ◌∙◌, ap₂, inl, inr, add-zero, le_of_suc-le-suc, not-suc-le-zero, pow-suc, pow_pos, arith}
 use mir.Val.{bits}
 use lib.Bits.{bit_and, bit_or}
 use Rattle.std.specs.Int.{Width, bit_at, trailing_zeros}
 use Rattle.std.proofs.lemmas.Nat.{shr-shr, shr_split}
-use Rattle.std.proofs.lemmas.Nat.Bits.{bit_at-lt, bit_at-suc, bit_at-zero, bit_at_and, bit_at_or, bit_at_not, bit_at-pow_same, bit_at-pow_other, bit_at_above, bit_at_cat_low, bit_at_cat_high, bit_at-trailing_zeros, same_from_bits_below}
-use Rattle.std.proofs.lemmas.Bool.{and_left, cases_eq, cases_lt, eq-eqb, le-leb, lt-leb, ne_eqb}
+use Rattle.std.proofs.lemmas.Nat.Bits.{bit_at-lt, bit_at-suc, bit_at-zero, bit_at_and, bit_at_or, bit_at_not, bit_at-pow_same, bit_at-pow_other, bit_at_above, bit_at_ones, bit_at_ones_above, bit_at_cat_low, bit_at_cat_high, bit_at-trailing_zeros, same_from_bits_below}
+use Rattle.std.proofs.lemmas.Bool.{and_left, cases_eq, cases_lt, eq-eqb, le-leb, le-ltb, lt-leb, lt-ltb, ne_eqb}
 use Rattle.std.proofs.lemmas.Bool.Decides.{nat_tests}
 use Rattle.pairs.specs.Words.{bit, digit, word}
 
@@ -82,6 +82,14 @@ unfolding bit
 bit-pow k j = elim (cases_eq j k) [
   | inl e ↦ ap (λ (i : ℕ). eqb (bit_at (2 ^ k) i) 1) e ∙ ap (λ (z : ℕ). eqb z 1) (bit_at-pow_same k) ∙ sym (eq-eqb j k e)
   | inr e ↦ ap (λ (z : ℕ). eqb z 1) (bit_at-pow_other k j e) ∙ sym (ne_eqb j k e)
+]
+
+-- the lowest k bits
+pub bit_ones : (k j : ℕ) → bit (2 ^ k - 1) j ≡ ltb j k
+unfolding bit
+bit_ones k j = elim (cases_lt j k) [
+  | inl l ↦ ap (λ (z : ℕ). eqb z 1) (bit_at_ones k j l) ∙ sym (lt-ltb j k l)
+  | inr l ↦ ap (λ (z : ℕ). eqb z 1) (bit_at_ones_above k j l) ∙ sym (le-ltb j k l)
 ]
 
 -- `x >> s`

@@ -13,8 +13,9 @@ from F (x ∷ xs) k t zero h = eqb-true x (F k) (and_parts (eqb x (F k)) _ t).0 
 from F (x ∷ xs) k t (suc j) h =
     from F xs (suc k) (and_parts (eqb x (F k)) _ t).1 j (le_of_suc-le-suc h) ∙ ap F (suc-add k j ∙ sym (add-suc k j))
 
-pub at : (F : ℕ → ℕ) (xs : List ℕ) → every F 0 xs ≡ true → (j : ℕ) → j < length xs → get_or xs j 0 ≡ F j
-at F xs t j h = from F xs 0 t j h ∙ ap F (zero-add j)
+-- what stands at a place of such a list
+pub entry : (F : ℕ → ℕ) (xs : List ℕ) {j x : ℕ} → every F 0 xs ≡ true → j < length xs → x ≡ get_or xs j 0 → x ≡ F j
+entry F xs {j} t h is = is ∙ from F xs 0 t j h ∙ ap F (zero-add j)
 
 -- two tests that agree, as a test
 abbrev agree : Bool → Bool → Bool

@@ -35,6 +35,13 @@ paired_is x d low k p h =
 abbrev Same : ℕ → ℕ → ℕ → ℕ → Type 0
 Same m g j k = (j % m ≡ k % m) × (j / g ≡ k / g)
 
+-- the lower places of each pair that a step joins
+abbrev Marked : ℕ → ℕ → Type 0
+Marked d low = (k : ℕ) → k < 64 → bit low k ≡ eqb (k / d % 2) 0
+
+marked_by : (d low : ℕ) → each 64 (bit low) (λ k. eqb (k / d % 2) 0) ≡ true → Marked d low
+marked_by d low = each_at 64 (bit low) (λ k. eqb (k / d % 2) 0)
+
 -- y has a place set where x has one that is the same
 record Joined (m g x y : ℕ) : Type 0 where
   to : (j : ℕ) → j < 64 → bit y j ≡ true → (k : ℕ) × (k < 64) × Same m g j k × (bit x k ≡ true)
@@ -52,7 +59,7 @@ record Steps (d g : ℕ) : Type 0 where
   both-even : (j k : ℕ) → Same d g j k → j / d % 2 ≡ 0 → k / d % 2 ≡ 0 → Same (2 * d) g j k
   both-odd : (j k : ℕ) → Same d g j k → (j / d % 2 ≡ 0 → ⊥) → (k / d % 2 ≡ 0 → ⊥) → Same (2 * d) g j k
 
-module _ {d g : ℕ} (low x w y : ℕ) (steps : Steps d g) (marks : (k : ℕ) → k < 64 → bit low k ≡ eqb (k / d % 2) 0)
+module _ {d g : ℕ} (low x w y : ℕ) (steps : Steps d g) (marks : Marked d low)
     (step_is : (k : ℕ) → k < 64 → bit y k ≡ paired_bit w d low k) (s : Joined (2 * d) g x w) where
   marked : (k : ℕ) → k < 64 → bit low k ≡ true → k / d % 2 ≡ 0
   marked k h e = eqb-true (k / d % 2) 0 (sym (marks k h) ∙ e)
@@ -193,49 +200,6 @@ by_8 =
       both-odd = λ j k s m n. (omega arith, omega arith);
     }
 
--- the lower places of each pair that a step joins
-marks-4 : (k : ℕ) → k < 64 → bit 0x0f0f0f0f0f0f0f0f k ≡ eqb (k / 4 % 2) 0
-unfolding bit
-marks-4 = each_at 64 (bit 0x0f0f0f0f0f0f0f0f) (λ k. eqb (k / 4 % 2) 0) test
-  where
-    test : each 64 (bit 0x0f0f0f0f0f0f0f0f) (λ k. eqb (k / 4 % 2) 0) ≡ true
-    test = refl
-
-marks-2 : (k : ℕ) → k < 64 → bit 0x3333333333333333 k ≡ eqb (k / 2 % 2) 0
-unfolding bit
-marks-2 = each_at 64 (bit 0x3333333333333333) (λ k. eqb (k / 2 % 2) 0) test
-  where
-    test : each 64 (bit 0x3333333333333333) (λ k. eqb (k / 2 % 2) 0) ≡ true
-    test = refl
-
-marks-1 : (k : ℕ) → k < 64 → bit 0x5555555555555555 k ≡ eqb (k / 1 % 2) 0
-unfolding bit
-marks-1 = each_at 64 (bit 0x5555555555555555) (λ k. eqb (k / 1 % 2) 0) test
-  where
-    test : each 64 (bit 0x5555555555555555) (λ k. eqb (k / 1 % 2) 0) ≡ true
-    test = refl
-
-marks-32 : (k : ℕ) → k < 64 → bit 0x00000000ffffffff k ≡ eqb (k / 32 % 2) 0
-unfolding bit
-marks-32 = each_at 64 (bit 0x00000000ffffffff) (λ k. eqb (k / 32 % 2) 0) test
-  where
-    test : each 64 (bit 0x00000000ffffffff) (λ k. eqb (k / 32 % 2) 0) ≡ true
-    test = refl
-
-marks-16 : (k : ℕ) → k < 64 → bit 0x0000ffff0000ffff k ≡ eqb (k / 16 % 2) 0
-unfolding bit
-marks-16 = each_at 64 (bit 0x0000ffff0000ffff) (λ k. eqb (k / 16 % 2) 0) test
-  where
-    test : each 64 (bit 0x0000ffff0000ffff) (λ k. eqb (k / 16 % 2) 0) ≡ true
-    test = refl
-
-marks-8 : (k : ℕ) → k < 64 → bit 0x00ff00ff00ff00ff k ≡ eqb (k / 8 % 2) 0
-unfolding bit
-marks-8 = each_at 64 (bit 0x00ff00ff00ff00ff) (λ k. eqb (k / 8 % 2) 0) test
-  where
-    test : each 64 (bit 0x00ff00ff00ff00ff) (λ k. eqb (k / 8 % 2) 0) ≡ true
-    test = refl
-
 module _ (t : Table) (l : t.bits < 2 ^ 64) (r4 r2 r1 c32 c16 c8 : ℕ) (p : r1 < 2 ^ 64) (q : c8 < 2 ^ 64)
     (is-4 : (k : ℕ) → k < 64 → bit r4 k ≡ paired_bit t.bits 4 0x0f0f0f0f0f0f0f0f k)
     (is-2 : (k : ℕ) → k < 64 → bit r2 k ≡ paired_bit r4 2 0x3333333333333333 k)
@@ -251,14 +215,16 @@ module _ (t : Table) (l : t.bits < 2 ^ 64) (r4 r2 r1 c32 c16 c8 : ℕ) (p : r1 <
       }
 
   rows : Joined 1 8 t.bits r1
+  unfolding bit
   rows =
-      next _ _ r2 r1 by-1 marks-1 is-1
-      (next _ _ r4 r2 by_2 marks-2 is-2 (next _ _ t.bits r4 by_4 marks-4 is-4 (one 8 8 (λ j k h i s. omega arith))))
+      next _ _ r2 r1 by-1 (marked_by 1 0x5555555555555555 refl) is-1
+      (next _ _ r4 r2 by_2 (marked_by 2 0x3333333333333333 refl) is-2 (next _ _ t.bits r4 by_4 (marked_by 4 0x0f0f0f0f0f0f0f0f refl) is-4 (one 8 8 (λ j k h i s. omega arith))))
 
   columns : Joined 8 64 t.bits c8
+  unfolding bit
   columns =
-      next _ _ c16 c8 by_8 marks-8 is-8
-      (next _ _ c32 c16 by-16 marks-16 is-16 (next _ _ t.bits c32 by-32 marks-32 is_32 (one 64 64 (λ j k h i s. omega arith))))
+      next _ _ c16 c8 by_8 (marked_by 8 0x00ff00ff00ff00ff refl) is-8
+      (next _ _ c32 c16 by-16 (marked_by 16 0x0000ffff0000ffff refl) is-16 (next _ _ t.bits c32 by-32 (marked_by 32 0x00000000ffffffff refl) is_32 (one 64 64 (λ j k h i s. omega arith))))
 
   spread : (k : ℕ) → k < 64 → bit (bit_or r1 c8) k ≡ joint t (k / 8) (k % 8)
   spread k h = bit-or r1 c8 k ∙ same (bit r1 k || bit c8 k) (joint t (k / 8) (k % 8)) (λ e. ends (or_cases (bit r1 k) (bit c8 k) e)) (λ e. starts (joint-by t (k / 8) (k % 8) e))

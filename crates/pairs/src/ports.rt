@@ -34,6 +34,7 @@ impl Ports {
         }
     }
 
+    // Not `From`: a byte is a set only by this reading of its digits, as a float is of its `from_bits`.
     /// The set of the ports x whose digit 2^x stands in the byte.
     pub fn from_byte(byte: u8) -> Ports
         ensures { result ≡ ports_of (bit byte) }

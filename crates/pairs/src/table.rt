@@ -12,6 +12,7 @@ pub struct Table {
     bits: u64,
 }
 
+// A constant is made of literals alone, so the entries stand here written out; the proof makes them by their rule.
 /// The pairs of the first 0, 1, .. 8 inputs and outputs.
 const SQUARES: [u64; 9] = [
     0x0,
@@ -44,6 +45,7 @@ const SUMS: [u64; 15] = [
     0x8000000000000000,
 ];
 
+// `empty` and `and` are those of `Ports` at another word: a trait over both words would be longer than the four bodies.
 impl Table {
     /// The table of no pair.
     pub fn empty() -> Table
@@ -56,12 +58,9 @@ impl Table {
     pub fn square(ports: usize) -> Table
         ensures { result ≡ table_of (λ i o. nat_lt i ports && nat_lt o ports) }
     {
-        if ports < SQUARES.len() {
-            Table {
-                bits: SQUARES[ports],
-            }
-        } else {
-            Table { bits: u64::MAX }
+        match SQUARES.get(ports) {
+            Some(&bits) => Table { bits },
+            None => Table { bits: u64::MAX },
         }
     }
 
@@ -69,10 +68,9 @@ impl Table {
     pub fn of_sum(total: usize) -> Table
         ensures { result ≡ table_of (λ i o. nat_eq (i + o) total) }
     {
-        if total < SUMS.len() {
-            Table { bits: SUMS[total] }
-        } else {
-            Table::empty()
+        match SUMS.get(total) {
+            Some(&bits) => Table { bits },
+            None => Table::empty(),
         }
     }
 
