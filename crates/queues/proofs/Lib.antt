@@ -1,7 +1,8 @@
 mod Following
 mod Moving
+mod Steps
+mod Views
 mod Starting
-pub mod Views
 mod Counting
 mod Cases
 mod Lawful

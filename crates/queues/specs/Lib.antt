@@ -1,6 +1,7 @@
+pub mod BlockList
 pub mod Linked
-pub mod Registers
 pub mod Queues
-pub mod Moves
 pub mod Calls
+pub mod Queue
+pub mod Moves
 pub mod Runs

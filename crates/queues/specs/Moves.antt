@@ -1,19 +1,6 @@
 -- The steps that joins and takes are made of: a block goes from the head of one linked list to the tail of another.
-use Rattle.std.specs.Prelude.{◌≡◌, ℕ, ◌<◌, [], ◌∷◌, ◌++◌, drop, Some, None, Option, ◌≢◌}
-use Rattle.queues.specs.declared.links.Links.{Links}
-use Rattle.queues.specs.Queues.{Queues, joined, taken, blocks_of}
-
--- the head b of the list `from` has gone to the tail of the list `to`, and nothing else has changed
-pub record Moved {B : ℕ} (old new : Links B) (from to b : ℕ) : Type 0 where
-  pub block : b < B
-  pub out : blocks_of old from ≡ b ∷ blocks_of new from
-  pub into : blocks_of new to ≡ blocks_of old to ++ (b ∷ [])
-  pub others : (q : ℕ) → q < 9 → (q ≢ from) → (q ≢ to) → blocks_of new q ≡ blocks_of old q
-
--- what moving the head of the list `from` to the tail of the list `to` answers and leaves
-abbrev pub Moves : {B : ℕ} → Links B → Links B → ℕ → ℕ → Option ℕ → Type 0
-Moves old new from to None = (blocks_of old from ≡ []) × (new ≡ old)
-Moves old new from to (Some b) = Moved old new from to b
+use Rattle.std.specs.Prelude.{◌≡◌, ℕ, ◌<◌, [], ◌∷◌, drop, Some, None, Option}
+use Rattle.queues.specs.Queues.{Queues, joined, taken}
 
 -- the head of the queue q, one of B blocks
 abbrev pub Heads : ℕ → Queues → ℕ → Option ℕ → Type 0

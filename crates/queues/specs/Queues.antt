@@ -1,10 +1,10 @@
 -- The queues and the free blocks, by the numbers of the blocks.
-use Rattle.std.specs.Prelude.{◌≡◌, ℕ, cond, List, [], ◌∷◌, ◌++◌, Ok, Err, Result, ◌==◌, ◌≢◌, nat_lt, slice_index}
+use Rattle.std.specs.Prelude.{◌≡◌, ℕ, cond, List, [], ◌∷◌, ◌++◌, Ok, Err, Result, ◌==◌, ◌≢◌, nat_lt}
 use Rattle.std.specs.List.{range_with_len}
 use Rattle.queues.specs.declared.refusal.QueueRefusal.{QueueRefusal}
 use Rattle.queues.specs.declared.refusal.QueueRefusal.TheVariants.{BlockCount}
 use Rattle.queues.specs.declared.links.Links.{Links}
-use Rattle.queues.specs.Linked.{blocks_from, size}
+use Rattle.queues.specs.Linked.{blocks_in, list_at}
 
 -- eight queues and the free blocks; a queue of 8 or above has no blocks
 pub record Queues : Type 0 where
@@ -41,7 +41,7 @@ unused blocks = record { queue = λ _. []; free = range_with_len 0 blocks }
 
 -- the blocks of one of the nine linked lists, from head to tail
 abbrev pub blocks_of : {B : ℕ} → Links B → ℕ → List ℕ
-blocks_of l q = blocks_from l.lists.next (slice_index l.lists.head q) (size l.lists.count q)
+blocks_of l q = blocks_in l.next (list_at l.queues l.free q)
 
 -- the queues that the links keep: eight, and the free list
 abbrev pub view : {B : ℕ} → Links B → Queues

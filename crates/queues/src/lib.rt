@@ -4,9 +4,11 @@
 //! caller lends at each call, so the same links serve every kind of element, and a part of a larger memory as well.
 #![tactic(auto)]
 
+mod block_list;
 mod links;
-mod lists;
+mod queue;
 mod refusal;
 
-pub use links::{Links, QUEUES};
+pub use links::Links;
+pub use queue::QUEUES;
 pub use refusal::QueueRefusal;

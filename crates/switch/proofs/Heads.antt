@@ -6,7 +6,7 @@ use Rattle.queues.specs.declared.links.Links.{Links}
 use Rattle.queues.specs.declared.refusal.QueueRefusal.{QueueRefusal}
 use Rattle.queues.specs.declared.refusal.QueueRefusal.TheVariants.{NoSuchQueue, BlockCount, Empty}
 use Rattle.queues.specs.Calls.{outcome, fits, then, held, head_of, read_by, take_by, take_call}
-use Rattle.queues.specs.Linked.{behind, blocks_from, size}
+use Rattle.queues.specs.Linked.{behind, blocks_from, list_at}
 use Rattle.queues.specs.Queues.{taken, blocks_of, view}
 
 from-head : (next : List ℕ) (h n b : ℕ) (rest : List ℕ) → blocks_from next h n ≡ b ∷ rest → (h ≡ b) × (0 < n)
@@ -21,8 +21,9 @@ behind-none next b = refl
 -- the head of a list is one of the blocks
 pub head-inside : {B : ℕ} (l : Links B) (q b : ℕ) (rest : List ℕ) → q < 9 → blocks_of l q ≡ b ∷ rest → b < B
 head-inside l q b rest lq e =
-    let r = from-head l.lists.next (get_or l.lists.head q 0) (size l.lists.count q) b rest e in
-    omega (arith, r.0, l.inside q 0 lq r.1, behind-none l.lists.next (get_or l.lists.head q 0))
+    let list = list_at l.queues l.free q in
+    let r = from-head l.next list.head list.count b rest e in
+    omega (arith, r.0, l.inside q 0 lq r.1, behind-none l.next list.head)
 
 pub view-at : {B : ℕ} (l : Links B) (q : ℕ) → q < 8 → (view l).queue q ≡ blocks_of l q
 view-at l q h = ap (λ (b : Bool). cond b (blocks_of l q) []) (lt-ltb q 8 h)

@@ -1,34 +1,26 @@
 //! What is done with the queues.
 
-ghost use Rattle.std.specs.Prelude.{◌≡◌, ◌<◌, length, IfOk, Some, ◌≢◌};
-ghost use Rattle.queues.specs.Calls.{fits, head_call, join_call, len_call, outcome, queue_fits, read_call, take_call};
-ghost use Rattle.queues.specs.Moves.{Appends, Heads, Moves, Releases};
+ghost use Rattle.std.specs.Prelude.{◌≡◌, ◌<◌, length, IfOk, Some};
+ghost use Rattle.queues.specs.Calls.{fits, head_call, join_call, len_call, outcome, read_call, take_call};
+ghost use Rattle.queues.specs.Moves.{Appends, Heads, Releases};
+ghost use Rattle.queues.specs.Queue.{Checks};
 ghost use Rattle.queues.specs.Queues.{Starts, blocks_of, unused, view};
 ghost use Rattle.queues.specs.Runs.{FirstInFirstOut};
 ghost use Rattle.std.specs.List.{slice_get};
 
-use super::{FREE, Links, QUEUES};
-use crate::lists::{LISTS, Lists};
+use super::Links;
+use crate::block_list::BlockList;
+use crate::queue::{QUEUES, Queue};
 use crate::refusal::QueueRefusal;
-
-/// Refuses a queue that there is not.
-fn check_queue(queue: usize) -> Result<(), QueueRefusal>
-    ensures { result ≡ queue_fits queue }
-{
-    if queue < QUEUES {
-        Ok(())
-    } else {
-        Err(QueueRefusal::NoSuchQueue)
-    }
-}
+use std::array;
 
 /// Refuses what is handed in to links of `own` blocks: first the queue, then the number of blocks.
-fn check(own: usize, blocks: usize, queue: usize) -> Result<(), QueueRefusal>
-    ensures { result ≡ fits own blocks queue }
+fn check(own: usize, blocks: usize, queue: usize) -> Result<Queue, QueueRefusal>
+    ensures { Checks (fits own blocks queue) queue result }
 {
-    check_queue(queue)?;
+    let queue = Queue::try_from(queue)?;
     if blocks == own {
-        Ok(())
+        Ok(queue)
     } else {
         Err(QueueRefusal::BlockCount)
     }
@@ -47,21 +39,18 @@ impl<const B: usize> Links<B> {
     pub fn new() -> Self
         ensures { view result ≡ unused B }
     {
-        let mut next = [0; B];
-        for i in 0..B {
-            next[i] = i + 1;
-        }
-        let mut tail = [0; LISTS];
-        tail[FREE] = B.saturating_sub(1);
-        let mut count = [0; LISTS];
-        count[FREE] = B;
-        let head = [0; LISTS];
+        let empty = BlockList {
+            head: 0,
+            tail: 0,
+            count: 0,
+        };
         Links {
-            lists: Lists {
-                next,
-                head,
-                tail,
-                count,
+            next: array::from_fn(|block| block + 1),
+            queues: [empty; QUEUES],
+            free: BlockList {
+                head: 0,
+                tail: B.saturating_sub(1),
+                count: B,
             },
         }
     }
@@ -78,58 +67,43 @@ impl<const B: usize> Links<B> {
         Ok(Links::new())
     }
 
-    /// Moves the block at the head of the list `from` to the tail of the list `to`, and says which it is.
-    fn move_head(&mut self, from: usize, to: usize) -> Option<usize>
-        requires { (from < 9) × ((to < 9) × ((from ≢ to))) }
-        ensures { Moves self.old self.new from to result }
+    /// How many elements the queue holds.
+    fn size(&self, queue: Queue) -> usize
+        ensures { result ≡ length (blocks_of self.now queue.number) }
     {
-        if self.lists.count[from] == 0 {
-            return None;
-        }
-        Some(self.lists.move_head(from, to))
+        self.queues[queue.number].count
     }
 
-    /// How many blocks one of the lists has.
-    fn size(&self, list: usize) -> usize
-        requires { list < 9 }
-        ensures { result ≡ length (blocks_of self.now list) }
+    /// The block at the head of the queue.
+    fn first(&self, queue: Queue) -> Option<usize>
+        ensures { Heads B (view self.now) queue.number result }
     {
-        self.lists.count[list]
-    }
-
-    /// The block at the head of a queue that there is.
-    fn first(&self, queue: usize) -> Option<usize>
-        requires { queue < 8 }
-        ensures { Heads B (view self.now) queue result }
-    {
-        if self.lists.count[queue] == 0 {
-            None
-        } else {
-            Some(self.lists.head[queue])
-        }
+        self.queues[queue.number].first()
     }
 
     /// Moves the first free block to the tail of the queue.
-    fn append(&mut self, queue: usize) -> Option<usize>
-        requires { queue < 8 }
-        ensures { Appends B (view self.old) (view self.new) queue result }
+    fn append(&mut self, queue: Queue) -> Option<usize>
+        ensures { Appends B (view self.old) (view self.new) queue.number result }
     {
-        self.move_head(FREE, queue)
+        let block = self.free.pop(&self.next)?;
+        self.queues[queue.number].push(&mut self.next, block);
+        Some(block)
     }
 
     /// Moves the head of the queue to the tail of the free list, so that it is the last to be used again.
-    fn release(&mut self, queue: usize) -> Option<usize>
-        requires { queue < 8 }
-        ensures { Releases B (view self.old) (view self.new) queue result }
+    fn release(&mut self, queue: Queue) -> Option<usize>
+        ensures { Releases B (view self.old) (view self.new) queue.number result }
     {
-        self.move_head(queue, FREE)
+        let block = self.queues[queue.number].pop(&self.next)?;
+        self.free.push(&mut self.next, block);
+        Some(block)
     }
 
     /// How many elements the queue holds.
     pub fn len(&self, queue: usize) -> Result<usize, QueueRefusal>
         ensures { result ≡ len_call (view self.now) queue }
     {
-        check_queue(queue)?;
+        let queue = Queue::try_from(queue)?;
         Ok(self.size(queue))
     }
 
@@ -137,7 +111,7 @@ impl<const B: usize> Links<B> {
     pub fn free_blocks(&self) -> usize
         ensures { result ≡ length (view self.now).free }
     {
-        self.size(FREE)
+        self.free.count
     }
 
     /// The number of the block at the head of the queue.
@@ -145,11 +119,8 @@ impl<const B: usize> Links<B> {
         ensures number { result ≡ head_call (view self.now) queue }
         ensures inside { IfOk result (λ b. b < B) }
     {
-        check_queue(queue)?;
-        match self.first(queue) {
-            Some(block) => Ok(block),
-            None => Err(QueueRefusal::Empty),
-        }
+        let queue = Queue::try_from(queue)?;
+        self.first(queue).ok_or(QueueRefusal::Empty)
     }
 
     /// Puts the element into the first free block, at the tail of the queue, and says how many stand ahead of it there.
@@ -161,11 +132,9 @@ impl<const B: usize> Links<B> {
     ) -> Result<usize, QueueRefusal>
         ensures { outcome result (view self.new) blocks.new ≡ join_call B (view self.old) blocks.old queue element }
     {
-        check(B, blocks.len(), queue)?;
+        let queue = check(B, blocks.len(), queue)?;
         let ahead = self.size(queue);
-        let Some(block) = self.append(queue) else {
-            return Err(QueueRefusal::NoFreeBlock);
-        };
+        let block = self.append(queue).ok_or(QueueRefusal::NoFreeBlock)?;
         blocks[block] = element;
         Ok(ahead)
     }
@@ -174,10 +143,8 @@ impl<const B: usize> Links<B> {
     pub fn read<T: Copy>(&self, blocks: &[T], queue: usize) -> Result<T, QueueRefusal>
         ensures { result ≡ read_call B (view self.now) blocks.now queue }
     {
-        check(B, blocks.len(), queue)?;
-        let Some(head) = self.first(queue) else {
-            return Err(QueueRefusal::Empty);
-        };
+        let queue = check(B, blocks.len(), queue)?;
+        let head = self.first(queue).ok_or(QueueRefusal::Empty)?;
         Ok(contents(blocks, head))
     }
 
@@ -186,10 +153,8 @@ impl<const B: usize> Links<B> {
     pub fn take<T: Copy>(&mut self, blocks: &[T], queue: usize) -> Result<T, QueueRefusal>
         ensures { outcome result (view self.new) blocks.now ≡ take_call B (view self.old) blocks.now queue }
     {
-        check(B, blocks.len(), queue)?;
-        match self.release(queue) {
-            Some(block) => Ok(contents(blocks, block)),
-            None => Err(QueueRefusal::Empty),
-        }
+        let queue = check(B, blocks.len(), queue)?;
+        let block = self.release(queue).ok_or(QueueRefusal::Empty)?;
+        Ok(contents(blocks, block))
     }
 }
