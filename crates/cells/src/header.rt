@@ -3,9 +3,9 @@
 ghost use Rattle.cells.specs.Header.{vci_of};
 ghost use Rattle.cells.specs.Layout.{LayoutLaw};
 ghost use Rattle.cells.specs.Reading.{header_of, of_cell};
-ghost use Rattle.std.specs.Prelude.{◌≡◌, ◌+◌, ◌*◌, ◌/◌, ◌%◌, [], ◌∷◌};
+ghost use Rattle.std.specs.Prelude.{◌≡◌};
 
-use crate::{CELL_BYTES, Cell};
+use crate::Cell;
 use refusals::Refusal;
 
 /// The fields of the header of a cell.
@@ -23,39 +23,30 @@ pub struct Header {
     pub loss_priority: u8,
 }
 
-impl Header {
-    /// The header of a cell.
-    pub fn of(cell: &Cell) -> Header
-        ensures fields { result ≡ header_of cell.now }
-        ensures layout { LayoutLaw }
-    {
-        let [first, second, third, fourth, ..] = cell;
-        Header::from_bytes(*first, *second, *third, *fourth)
-    }
+impl From<&Cell> for Header {
+    // Of each cell: its fields, which lie where the standard lays them.
+    ghost from_gives = { λ cell header. (header ≡ header_of cell.now) × LayoutLaw };
 
-    /// The header of a cell handed in as a slice of bytes. Refuses what is not 53 bytes.
-    pub fn read(bytes: &[u8]) -> Result<Header, Refusal>
-        ensures { result ≡ of_cell bytes.now (header_of bytes.now) }
-    {
-        let [first, second, third, fourth, rest @ ..] = bytes else {
-            return Err(Refusal::CellLength);
-        };
-        if rest.len() != CELL_BYTES - 4 {
-            return Err(Refusal::CellLength);
-        }
-        Ok(Header::from_bytes(*first, *second, *third, *fourth))
-    }
-
-    fn from_bytes(first: u8, second: u8, third: u8, fourth: u8) -> Header
-        ensures { result ≡ header_of (first ∷ second ∷ third ∷ fourth ∷ []) }
-    {
+    fn from(cell: &Cell) -> Header {
+        let [first, second, _, fourth, ..] = *cell;
         Header {
             gfc: first / 16,
             vpi: first % 16 * 16 + second / 16,
-            vci: vci_from_bytes(second, third, fourth),
+            vci: vci(cell),
             payload_type: fourth / 2 % 8,
             loss_priority: fourth % 2,
         }
+    }
+}
+
+impl TryFrom<&[u8]> for Header {
+    type Error = Refusal;
+
+    ghost try_from_gives = { λ bytes answer. answer ≡ of_cell bytes.now (header_of bytes.now) };
+
+    fn try_from(bytes: &[u8]) -> Result<Header, Refusal> {
+        let cell = bytes.as_array().ok_or(Refusal::CellLength)?;
+        Ok(Header::from(cell))
     }
 }
 
@@ -63,12 +54,6 @@ impl Header {
 pub fn vci(cell: &Cell) -> u16
     ensures { result ≡ vci_of cell.now }
 {
-    let [_, second, third, fourth, ..] = cell;
-    vci_from_bytes(*second, *third, *fourth)
-}
-
-fn vci_from_bytes(second: u8, third: u8, fourth: u8) -> u16
-    ensures { result ≡ second % 16 * 4096 + third * 16 + fourth / 16 }
-{
+    let [_, second, third, fourth, ..] = *cell;
     (second % 16) as u16 * 4096 + third as u16 * 16 + (fourth / 16) as u16
 }

@@ -4,26 +4,20 @@ ghost use Rattle.cells.specs.Header.{is_idle};
 ghost use Rattle.cells.specs.Reading.{of_cell};
 ghost use Rattle.std.specs.Prelude.{◌≡◌};
 
-use crate::{CELL_BYTES, Cell};
+use crate::Cell;
 use refusals::Refusal;
 
-/// Whether a cell handed in as a slice of bytes is idle: its first four bytes are 00 00 00 01. Refuses what is not 53 bytes.
+/// Whether a cell handed in as a slice of bytes is idle. Refuses what is not 53 bytes.
 pub fn is_idle(bytes: &[u8]) -> Result<bool, Refusal>
     ensures { result ≡ of_cell bytes.now (is_idle bytes.now) }
 {
-    let [first, second, third, fourth, rest @ ..] = bytes else {
-        return Err(Refusal::CellLength);
-    };
-    if rest.len() != CELL_BYTES - 4 {
-        return Err(Refusal::CellLength);
-    }
-    Ok(*first == 0 && *second == 0 && *third == 0 && *fourth == 1)
+    let cell = bytes.as_array().ok_or(Refusal::CellLength)?;
+    Ok(is_idle_cell(cell))
 }
 
 /// Whether a cell is idle: its first four bytes are 00 00 00 01.
 pub fn is_idle_cell(cell: &Cell) -> bool
     ensures { result ≡ is_idle cell.now }
 {
-    let [first, second, third, fourth, ..] = cell;
-    *first == 0 && *second == 0 && *third == 0 && *fourth == 1
+    matches!(cell, [0, 0, 0, 1, ..])
 }

@@ -34,7 +34,7 @@ fn list_cell<W: Write>(number: u32, input: u8, cell: &Cell, out: &mut W) -> io::
         vci,
         payload_type,
         loss_priority,
-    } = Header::of(cell);
+    } = Header::from(cell);
     write!(
         out,
         "{number}: cell: input {input}, GFC {gfc:X}, VPI {vpi:02X}, VCI {vci:04X}, PT {payload_type}, CLP {loss_priority}, bytes "

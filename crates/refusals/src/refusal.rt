@@ -3,41 +3,69 @@
 ghost use Rattle.refusals.specs.Numbers.{number_of, place_of};
 ghost use Rattle.std.specs.Prelude.{◌≡◌};
 
-use std::fmt;
+use thiserror::Error;
 
 /// Why a call or a line was refused. The first block is refused for what was handed in, the second for the state.
-#[derive(Clone, Copy, PartialEq, Eq, Debug)]
+#[derive(Clone, Copy, PartialEq, Eq, Debug, Error)]
 pub enum Refusal {
+    #[error("port not below the port count")]
     PortBeyond,
+    #[error("cell not of 53 bytes")]
     CellLength,
+    #[error("cell memory not of 16 blocks for each port")]
     CellMemoryLength,
+    #[error("note memory not of 64 blocks")]
     NoteMemoryLength,
+    #[error("slot bytes not 53 for each port")]
     SlotBytesLength,
+    #[error("idle cell or bytes to look into not 53")]
     IdleOrLookLength,
+    #[error("port count not from 2 to 8")]
     PortCount,
+    #[error("period not from 2 to 64")]
     PeriodRange,
+    #[error("output reserved by another input")]
     OutputReserved,
+    #[error("line of more than 200 bytes")]
     LineTooLong,
     /// The place, in bytes from 0, of the first byte that is not the digit that should stand there;
     /// the line's length if that digit is missing at the end.
+    #[error("digit wrong or missing")]
     WrongDigit { place: usize },
+    #[error("unknown kind of frame")]
     UnknownKind,
+    #[error("frame empty or of the wrong length")]
     FrameLength,
+    #[error("arbiter code not 01 or 02")]
     UnknownArbiter,
 
+    #[error("ticket not of this mark, slot and stage")]
     WrongTicket,
+    #[error("slot already open")]
     SlotOpen,
+    #[error("no slot number after 4294967295")]
     NoSlotNumber,
+    #[error("turn of the input used in this slot")]
     TurnUsed,
+    #[error("no route for the circuit")]
     NoRoute,
+    #[error("all 16 blocks of the input hold cells")]
     InputFull,
+    #[error("32 routes at the input and this circuit new")]
     RoutesFull,
+    #[error("no such route")]
     NoSuchRoute,
+    #[error("grants not sent yet")]
     GrantsUnsent,
+    #[error("no grant left to send")]
     NoGrantLeft,
+    #[error("no free note block")]
     NotesFull,
+    #[error("no note")]
     NoNote,
+    #[error("no cell to look at")]
     NoCell,
+    #[error("frame before the recording's start, or a second start")]
     OutOfPlace,
 }
 
@@ -46,6 +74,7 @@ impl Refusal {
     pub fn number(&self) -> u8
         ensures { result ≡ number_of self.now }
     {
+        // No cast of the enum to its discriminant gives the number, since one variant carries a place.
         match self {
             Refusal::PortBeyond => 1,
             Refusal::CellLength => 2,
@@ -86,45 +115,5 @@ impl Refusal {
             Refusal::WrongDigit { place } => Some(*place),
             _ => None,
         }
-    }
-
-    /// What is wrong, in words.
-    fn sentence(&self) -> &'static str {
-        match self {
-            Refusal::PortBeyond => "port not below the port count",
-            Refusal::CellLength => "cell not of 53 bytes",
-            Refusal::CellMemoryLength => "cell memory not of 16 blocks for each port",
-            Refusal::NoteMemoryLength => "note memory not of 64 blocks",
-            Refusal::SlotBytesLength => "slot bytes not 53 for each port",
-            Refusal::IdleOrLookLength => "idle cell or bytes to look into not 53",
-            Refusal::PortCount => "port count not from 2 to 8",
-            Refusal::PeriodRange => "period not from 2 to 64",
-            Refusal::OutputReserved => "output reserved by another input",
-            Refusal::LineTooLong => "line of more than 200 bytes",
-            Refusal::WrongDigit { .. } => "digit wrong or missing",
-            Refusal::UnknownKind => "unknown kind of frame",
-            Refusal::FrameLength => "frame empty or of the wrong length",
-            Refusal::UnknownArbiter => "arbiter code not 01 or 02",
-            Refusal::WrongTicket => "ticket not of this mark, slot and stage",
-            Refusal::SlotOpen => "slot already open",
-            Refusal::NoSlotNumber => "no slot number after 4294967295",
-            Refusal::TurnUsed => "turn of the input used in this slot",
-            Refusal::NoRoute => "no route for the circuit",
-            Refusal::InputFull => "all 16 blocks of the input hold cells",
-            Refusal::RoutesFull => "32 routes at the input and this circuit new",
-            Refusal::NoSuchRoute => "no such route",
-            Refusal::GrantsUnsent => "grants not sent yet",
-            Refusal::NoGrantLeft => "no grant left to send",
-            Refusal::NotesFull => "no free note block",
-            Refusal::NoNote => "no note",
-            Refusal::NoCell => "no cell to look at",
-            Refusal::OutOfPlace => "frame before the recording's start, or a second start",
-        }
-    }
-}
-
-impl fmt::Display for Refusal {
-    fn fmt<W: fmt::Write>(&self, f: &mut fmt::Formatter<W>) -> fmt::Result {
-        f.write_str(self.sentence())
     }
 }
