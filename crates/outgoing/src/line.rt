@@ -18,13 +18,8 @@ pub fn line_of<'a>(
 ) -> Result<&'a [u8], Refusal>
     ensures { handed result ≡ line_of slot_bytes.now output sent idle.now }
 {
-    if output >= slot_bytes.len() / CELL_BYTES {
-        return Err(Refusal::SlotBytesLength);
-    }
+    let (lines, _) = slot_bytes.as_chunks::<CELL_BYTES>();
+    let line = lines.get(output).ok_or(Refusal::SlotBytesLength)?;
     check_length(idle)?;
-    if !sent {
-        return Ok(idle);
-    }
-    let at = output * CELL_BYTES;
-    Ok(&slot_bytes[at..at + CELL_BYTES])
+    Ok(if sent { line } else { idle })
 }

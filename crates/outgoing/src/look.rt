@@ -43,5 +43,6 @@ pub fn show_at(cells: &mut [Block], at: usize, bytes: &mut [u8]) -> Result<(), R
         check_length(bytes)?;
         return Err(Refusal::NoCell);
     }
+    // Not by `get_mut`, which promises nothing of the whole memory once the block is given back.
     show_block(&mut cells[at], bytes)
 }

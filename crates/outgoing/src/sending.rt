@@ -19,6 +19,7 @@ pub fn send_into(slot_bytes: &mut [u8], output: usize, block: &Block) -> Result<
     }
     let mut cell = block.cell;
     rewrite_cell(&mut cell, block.new_vci);
+    // Not by `as_chunks_mut`, which promises nothing of the whole slice once a chunk is written.
     let at = output * CELL_BYTES;
     slot_bytes[at..at + CELL_BYTES].copy_from_slice(&cell);
     Ok(())

@@ -29,7 +29,7 @@ impl<'a> Rewritten<'a> {
         ensures cell { result.cell.now ≡ rewritten cell.old new_vci }
         ensures header { result.header ≡ header_of cell.old }
     {
-        let header = [cell[0], cell[1], cell[2], cell[3]];
+        let header = *cell.first_chunk().unwrap();
         rewrite_cell(cell, new_vci);
         Rewritten { cell, header }
     }
