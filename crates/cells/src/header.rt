@@ -1,8 +1,7 @@
 //! The fields of a cell's header. Byte 4, the header's check byte, is carried as it came and read by nobody.
 
 ghost use Rattle.cells.specs.Header.{vci_of};
-ghost use Rattle.cells.specs.Layout.{LayoutLaw};
-ghost use Rattle.cells.specs.Reading.{header_of, of_cell};
+ghost use Rattle.cells.specs.Reading.{IsHeaderOf, header_of, of_cell};
 ghost use Rattle.std.specs.Prelude.{◌≡◌};
 
 use crate::Cell;
@@ -24,8 +23,7 @@ pub struct Header {
 }
 
 impl From<&Cell> for Header {
-    // Of each cell: its fields, which lie where the standard lays them.
-    ghost from_gives = { λ cell header. (header ≡ header_of cell.now) × LayoutLaw };
+    ghost from_gives = { λ cell header. IsHeaderOf cell.now header };
 
     fn from(cell: &Cell) -> Header {
         let [first, second, _, fourth, ..] = *cell;

@@ -13,4 +13,4 @@ layout-law cell ok =
     }
 
 pub returns : goal.returns
-returns c = (search rules, layout-law)
+returns c = record { fields = search rules; layout = layout-law }
