@@ -1,21 +1,12 @@
 //! A slot line in words.
 
 use cells::{Cell, Header};
-use lines::{ArbiterKind, Frame, SlotLine, arbiter_kind};
+use lines::{Frame, SlotLine};
 use refusals::Refusal;
 use std::io;
 use std::io::Write;
 
 const DIGITS: &[u8; 16] = b"0123456789ABCDEF";
-
-/// The arbiter that a code stands for, in words.
-fn arbiter_name(code: u8) -> &'static str {
-    match arbiter_kind(code) {
-        Ok(ArbiterKind::Diagonal) => "diagonal",
-        Ok(ArbiterKind::Ripple) => "ripple",
-        Err(_) => "unknown",
-    }
-}
 
 /// Two upper-case digits for each byte of the cell.
 fn spelled(cell: &Cell) -> [u8; 106] {
@@ -51,10 +42,10 @@ fn list_frame<W: Write>(number: u32, frame: &Frame, out: &mut W) -> io::Result<(
             mark,
             first_slot,
         } => {
-            let name = arbiter_name(*arbiter);
+            let code = u8::from(*arbiter);
             writeln!(
                 out,
-                "{number}: start: {ports} ports, arbiter {arbiter:02X} ({name}), mark {mark:08X}, first slot {first_slot}"
+                "{number}: start: {ports} ports, arbiter {code:02X} ({arbiter}), mark {mark:08X}, first slot {first_slot}"
             )
         }
         Frame::Route {

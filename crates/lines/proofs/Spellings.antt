@@ -1,15 +1,16 @@
 -- A line is read as a frame exactly if it spells that frame, and each frame has one spelling in upper case without spaces.
-use Rattle.std.proofs.Common.{◌≡◌, ℕ, zero, suc, ◌+◌, ◌-◌, ◌*◌, ◌/◌, ◌%◌, ◌<◌, ◌≤◌, true, false, cond, ◌&&◌, eqb, ltb, leb, List, [], ◌∷◌, ◌++◌, length, get_or, take, drop, is_ok, Ok, Err, Result, sym, refl, ap, ◌∙◌, subst, ap₂, inl, inr, arith}
+use Rattle.std.proofs.Common.{◌≡◌, ℕ, zero, suc, ◌+◌, ◌-◌, ◌*◌, ◌/◌, ◌%◌, ◌<◌, ◌≤◌, true, false, cond, ◌&&◌, eqb, ltb, leb, List, [], ◌∷◌, ◌++◌, length, get_or, take, drop, Ok, Err, Result, sym, refl, ap, ◌∙◌, subst, ap₂, inl, inr, arith}
 use Rattle.std.proofs.lemmas.List.{take_all, drop_more, drop_all, length-drop, get_or-drop}
 use Rattle.std.proofs.lemmas.Bool.{lt-ltb, le-ltb, le-leb, lt-leb, and_from, and_right, eq-eqb, ne_eqb, eqb-true, cases_Bool, cases_lt}
 use Rattle.std.specs.List.{between}
 use Rattle.refusals.specs.declared.refusal.Refusal.{Refusal}
-use Rattle.refusals.specs.declared.refusal.Refusal.TheVariants.{LineTooLong, WrongDigit, UnknownKind, FrameLength}
+use Rattle.refusals.specs.declared.refusal.Refusal.TheVariants.{LineTooLong, WrongDigit, UnknownKind, FrameLength, UnknownArbiter}
 use Rattle.lines.specs.declared.frame.Frame.{Frame}
 use Rattle.lines.specs.declared.frame.Frame.TheVariants.{Start, Route, Cell, Close}
 use Rattle.lines.specs.declared.frame.ArbiterKind.{ArbiterKind}
+use Rattle.lines.specs.declared.frame.ArbiterKind.TheVariants.{Diagonal, Ripple}
 use Rattle.lines.specs.Hex.{digit, hex}
-use Rattle.lines.specs.Frames.{frame_of, frame_in, spelled, kind_of, with_kind, two, four}
+use Rattle.lines.specs.Frames.{frame_of, frame_in, spelled, kind_of, code_of, with_kind, two, four}
 use Rattle.lines.specs.Spelled.{Pairs, one, next, spaced, Spelled, nothing, pairs_of}
 use Rattle.lines.specs.Spelling.{upper, spell, bytes_of, canonical, high-two, high-four, Sound, Spells, UpperDigit, AllUpper, FramesSpelled}
 use Rattle.lines.proofs.Back.{Bytes, bytes-by-place, hex-spell, length-spell, four-back, two_back, two-split, four-split}
@@ -18,21 +19,13 @@ use Rattle.lines.proofs.Readings.{one-reading}
 false-not-true : false ≡ true → ⊥
 false-not-true e = let z : ◌≡◌ {A = ℕ} 1 0 = ap (λ b. cond b 0 1) e in omega arith
 
--- the code of a frame stands for an arbiter
-known_small : (code : ℕ) → is_ok (kind_of code) ≡ true → code < 256
-known_small code h =
-    elim (cases_Bool (eqb code 1)) [
-      | inl e ↦ omega (arith, eqb-true code 1 e)
-      | inr e ↦
-          elim (cases_Bool (eqb code 2)) [
-            | inl f ↦ omega (arith, eqb-true code 2 f)
-            | inr f ↦ absurd (false-not-true (rw (e, f) at h))
-          ]
-    ]
+known_small : (kind : ArbiterKind) → code_of kind < 256
+known_small Diagonal = omega arith
+known_small Ripple = omega arith
 
-with-known : (k : Result ArbiterKind Refusal) (f : Frame) → is_ok k ≡ true → with_kind k f ≡ Ok f
-with-known (Ok kind) f h = refl
-with-known (Err r) f h = absurd (false-not-true h)
+known-kind : (kind : ArbiterKind) → kind_of (code_of kind) ≡ Ok kind
+known-kind Diagonal = refl
+known-kind Ripple = refl
 
 low : (n : ℕ) → n % 256 < 256
 low n = omega arith
@@ -40,7 +33,7 @@ low n = omega arith
 -- the bytes of a frame are bytes, few, and read as that frame
 frame-bytes : (f : Frame) → Sound f → Bytes (bytes_of f)
 frame-bytes (Start ports arbiter mark first) s =
-    (omega arith, (s.0, (known_small arbiter s.1, (low _, (low _, (low _, (low _, (low _, (low _, (low _, (low _, tt)))))))))))
+    (omega arith, (s.0, (known_small arbiter, (low _, (low _, (low _, (low _, (low _, (low _, (low _, (low _, tt)))))))))))
 frame-bytes (Route input vci output new) s = (omega arith, (s.0, (low _, (low _, (s.2, (low _, (low _, tt)))))))
 frame-bytes (Cell input cell) s = (omega arith, (s.0, bytes-by-place cell s.2))
 frame-bytes Close s = (omega arith, tt)
@@ -53,8 +46,8 @@ few_bytes Close s = omega arith
 
 bytes_read : (f : Frame) → Sound f → frame_in (bytes_of f) ≡ Ok f
 bytes_read (Start ports arbiter mark first) s =
-    with-known (kind_of arbiter) (Start ports arbiter (four (bytes_of (Start ports arbiter mark first)) 3) (four (bytes_of (Start ports arbiter mark first)) 7)) s.1
-    ∙ ap₂ (λ (m f : ℕ). Ok (Start ports arbiter m f)) (four-back mark s.2) (four-back first s.3)
+    ap (λ (k : Result ArbiterKind Refusal). with_kind k (λ kind. Start ports kind (four (bytes_of (Start ports arbiter mark first)) 3) (four (bytes_of (Start ports arbiter mark first)) 7))) (known-kind arbiter)
+    ∙ ap₂ (λ (m f : ℕ). Ok (Start ports arbiter m f)) (four-back mark s.1) (four-back first s.2)
 bytes_read (Route input vci output new) s =
     ap₂ (λ (v w : ℕ). Ok (Route input v output w)) (two_back vci s.1) (two_back new s.3)
 bytes_read (Cell input cell) s =
@@ -74,11 +67,11 @@ short-spelled line l = let s : ltb 200 (length line) ≡ false = le-ltb 200 _ l 
 reads : (line : List ℕ) (f : Frame) → Spells line f → frame_of line ≡ Ok f
 reads line f s = short-spelled line s.2 ∙ ap spelled (one-reading.0 line (bytes_of f) s.0) ∙ bytes_read f s.1
 
-not-both : (f : Frame) (r : Refusal) → ◌≡◌ {A = Result Frame Refusal} (Ok f) (Err r) → ⊥
-not-both f r e = let z : ◌≡◌ {A = ℕ} 0 1 = cc in omega arith
+not-both : {T E : Type 0} (x : T) (r : E) → ◌≡◌ {A = Result T E} (Ok x) (Err r) → ⊥
+not-both x r e = let z : ◌≡◌ {A = ℕ} 0 1 = cc in omega arith
 
-same-frame : (f g : Frame) → ◌≡◌ {A = Result Frame Refusal} (Ok f) (Ok g) → f ≡ g
-same-frame f g e = cc
+same-value : {T E : Type 0} (x y : T) → ◌≡◌ {A = Result T E} (Ok x) (Ok y) → x ≡ y
+same-value x y e = cc
 
 -- what pairs of digits spell are bytes
 pairs-bytes : (line xs : List ℕ) → Pairs line xs → Bytes xs
@@ -119,21 +112,39 @@ record HasBytes (xs : List ℕ) (f : Frame) : Type 0 where
   pub bytes : xs ≡ bytes_of f
   pub sound : Sound f
 
-kind_ok : (k : Result ArbiterKind Refusal) (g f : Frame) → with_kind k g ≡ Ok f → (is_ok k ≡ true) × (g ≡ f)
-kind_ok (Ok kind) g f e = (refl, same-frame g f e)
-kind_ok (Err r) g f e = absurd (not-both f r (sym e))
+-- the arbiter of a frame is the one that its code stands for
+record HasKind (code : ℕ) (g : ArbiterKind → Frame) (f : Frame) : Type 0 where
+  pub kind : ArbiterKind
+  pub code_is : code_of kind ≡ code
+  pub frame : g kind ≡ f
 
-start-bytes : (xs : List ℕ) → Bytes xs → get_or xs 0 0 ≡ 0 → length xs ≡ 11 → is_ok (kind_of (get_or xs 2 0)) ≡ true →
-    HasBytes xs (Start (get_or xs 1 0) (get_or xs 2 0) (four xs 3) (four xs 7))
-start-bytes xs h z l k =
+code-back : (code : ℕ) (kind : ArbiterKind) → kind_of code ≡ Ok kind → code_of kind ≡ code
+code-back code kind e =
+    elim (cases_Bool (eqb code 1)) [
+      | inl a ↦ let q : Diagonal ≡ kind = same-value _ _ (rw a at e) in ap code_of (sym q) ∙ sym (eqb-true code 1 a)
+      | inr a ↦
+          elim (cases_Bool (eqb code 2)) [
+            | inl b ↦ let q : Ripple ≡ kind = same-value _ _ (rw (a, b) at e) in ap code_of (sym q) ∙ sym (eqb-true code 2 b)
+            | inr b ↦ absurd (not-both kind UnknownArbiter (sym (rw (a, b) at e)))
+          ]
+    ]
+
+has-kind : (code : ℕ) (k : Result ArbiterKind Refusal) (g : ArbiterKind → Frame) (f : Frame) → kind_of code ≡ k → with_kind k g ≡ Ok f → HasKind code g f
+has-kind code (Ok kind) g f h e = record { kind = kind; code_is = code-back code kind h; frame = same-value (g kind) f e }
+has-kind code (Err r) g f h e = absurd (not-both f r (sym e))
+
+start-bytes : (xs : List ℕ) → Bytes xs → get_or xs 0 0 ≡ 0 → length xs ≡ 11 → (kind : ArbiterKind) → code_of kind ≡ get_or xs 2 0 →
+    HasBytes xs (Start (get_or xs 1 0) kind (four xs 3) (four xs 7))
+start-bytes xs h z l kind k =
     let at : (i : ℕ) → get_or xs i 0 < 256 = byte_at xs h in
     let m = four-of (get_or xs 3 0) (get_or xs 4 0) (get_or xs 5 0) (get_or xs 6 0) (at 3) (at 4) (at 5) (at 6) in
     let s = four-of (get_or xs 7 0) (get_or xs 8 0) (get_or xs 9 0) (get_or xs 10 0) (at 7) (at 8) (at 9) (at 10) in
     record {
       bytes = all_listed xs 11 0 l
           ∙ ap (λ (x : ℕ). x ∷ listed xs 1 10) z
-          ∙ sym (ap₂ (λ (ys zs : List ℕ). 0 ∷ get_or xs 1 0 ∷ get_or xs 2 0 ∷ (ys ++ zs)) m s);
-      sound = (at 1, k, omega (arith, at 3, at 4, at 5, at 6), omega (arith, at 7, at 8, at 9, at 10));
+          ∙ sym (ap₂ (λ (ys zs : List ℕ). 0 ∷ get_or xs 1 0 ∷ get_or xs 2 0 ∷ (ys ++ zs)) m s)
+          ∙ sym (ap (λ (x : ℕ). 0 ∷ get_or xs 1 0 ∷ x ∷ (high-four (four xs 3) ++ high-four (four xs 7))) k);
+      sound = (at 1, omega (arith, at 3, at 4, at 5, at 6), omega (arith, at 7, at 8, at 9, at 10));
     }
 
 route-bytes : (xs : List ℕ) → Bytes xs → get_or xs 0 0 ≡ 1 → length xs ≡ 7 → HasBytes xs (Route (get_or xs 1 0) (two xs 2) (get_or xs 4 0) (two xs 5))
@@ -176,29 +187,29 @@ has-bytes xs f h e =
                 elim (cases_Bool (eqb (length xs) 11)) [
                   | inr l ↦ absurd (not-both f FrameLength (sym (rw (z, a, l) at e)))
                   | inl l ↦
-                      let q = kind_ok (kind_of (get_or xs 2 0)) (Start (get_or xs 1 0) (get_or xs 2 0) (four xs 3) (four xs 7)) f (rw (z, a, l) at e) in
-                      moved xs _ f q.1 (start-bytes xs h (eqb-true _ 0 a) (eqb-true _ 11 l) q.0)
+                      let q = has-kind (get_or xs 2 0) (kind_of (get_or xs 2 0)) (λ kind. Start (get_or xs 1 0) kind (four xs 3) (four xs 7)) f refl (rw (z, a, l) at e) in
+                      moved xs _ f q.frame (start-bytes xs h (eqb-true _ 0 a) (eqb-true _ 11 l) q.kind q.code_is)
                 ]
             | inr a ↦
                 elim (cases_Bool (eqb (get_or xs 0 0) 1)) [
                   | inl b ↦
                       elim (cases_Bool (eqb (length xs) 7)) [
                         | inr l ↦ absurd (not-both f FrameLength (sym (rw (z, a, b, l) at e)))
-                        | inl l ↦ moved xs _ f (same-frame _ f (rw (z, a, b, l) at e)) (route-bytes xs h (eqb-true _ 1 b) (eqb-true _ 7 l))
+                        | inl l ↦ moved xs _ f (same-value _ f (rw (z, a, b, l) at e)) (route-bytes xs h (eqb-true _ 1 b) (eqb-true _ 7 l))
                       ]
                   | inr b ↦
                       elim (cases_Bool (eqb (get_or xs 0 0) 2)) [
                         | inl c ↦
                             elim (cases_Bool (eqb (length xs) 55)) [
                               | inr l ↦ absurd (not-both f FrameLength (sym (rw (z, a, b, c, l) at e)))
-                              | inl l ↦ moved xs _ f (same-frame _ f (rw (z, a, b, c, l) at e)) (cell-bytes xs h (eqb-true _ 2 c) (eqb-true _ 55 l))
+                              | inl l ↦ moved xs _ f (same-value _ f (rw (z, a, b, c, l) at e)) (cell-bytes xs h (eqb-true _ 2 c) (eqb-true _ 55 l))
                             ]
                         | inr c ↦
                             elim (cases_Bool (eqb (get_or xs 0 0) 3)) [
                               | inl d ↦
                                   elim (cases_Bool (eqb (length xs) 1)) [
                                     | inr l ↦ absurd (not-both f FrameLength (sym (rw (z, a, b, c, d, l) at e)))
-                                    | inl l ↦ moved xs _ f (same-frame _ f (rw (z, a, b, c, d, l) at e)) (close-bytes xs (eqb-true _ 3 d) (eqb-true _ 1 l))
+                                    | inl l ↦ moved xs _ f (same-value _ f (rw (z, a, b, c, d, l) at e)) (close-bytes xs (eqb-true _ 3 d) (eqb-true _ 1 l))
                                   ]
                               | inr d ↦ absurd (not-both f UnknownKind (sym (rw (z, a, b, c, d) at e)))
                             ]

@@ -20,9 +20,14 @@ four xs i = slice_index xs i * 16777216 + slice_index xs (i + 1) * 65536 + slice
 abbrev pub kind_of : ℕ → Result ArbiterKind Refusal
 kind_of code = cond (code == 1) (Ok Diagonal) (cond (code == 2) (Ok Ripple) (Err UnknownArbiter))
 
--- the frame, if its code stands for an arbiter
-abbrev pub with_kind : Result ArbiterKind Refusal → Frame → Result Frame Refusal
-with_kind (Ok kind) f = Ok f
+-- the code that stands for an arbiter
+abbrev pub code_of : ArbiterKind → ℕ
+code_of Diagonal = 1
+code_of Ripple = 2
+
+-- the frame with its arbiter, if its code stands for one
+abbrev pub with_kind : Result ArbiterKind Refusal → (ArbiterKind → Frame) → Result Frame Refusal
+with_kind (Ok kind) f = Ok (f kind)
 with_kind (Err refusal) f = Err refusal
 
 -- the frame, if it has n bytes
@@ -31,7 +36,7 @@ sized xs n f = cond (length xs == n) f (Err FrameLength)
 
 -- 00, port count, arbiter code, mark, first slot
 abbrev pub start_in : List ℕ → Result Frame Refusal
-start_in xs = sized xs 11 (with_kind (kind_of (slice_index xs 2)) (Start (slice_index xs 1) (slice_index xs 2) (four xs 3) (four xs 7)))
+start_in xs = sized xs 11 (with_kind (kind_of (slice_index xs 2)) (λ kind. Start (slice_index xs 1) kind (four xs 3) (four xs 7)))
 
 -- 01, input, VCI, output, new VCI
 abbrev pub route_in : List ℕ → Result Frame Refusal

@@ -1,9 +1,9 @@
 -- Frames as bytes, bytes as upper-case digits, and the theorem on frames and the lines that spell them.
-use Rattle.std.specs.Prelude.{◌≡◌, ℕ, ◌+◌, ◌/◌, ◌%◌, ◌<◌, ◌≤◌, true, cond, ◌⊎◌, List, [], ◌∷◌, ◌++◌, length, is_ok, Ok, Err, ◌≢◌, nat_lt, slice_index}
+use Rattle.std.specs.Prelude.{◌≡◌, ℕ, ◌+◌, ◌/◌, ◌%◌, ◌<◌, ◌≤◌, cond, ◌⊎◌, List, [], ◌∷◌, ◌++◌, length, Ok, Err, ◌≢◌, nat_lt, slice_index}
 use Rattle.refusals.specs.declared.refusal.Refusal.{Refusal}
 use Rattle.lines.specs.declared.frame.Frame.{Frame}
 use Rattle.lines.specs.declared.frame.Frame.TheVariants.{Start, Route, Cell, Close}
-use Rattle.lines.specs.Frames.{frame_of, kind_of}
+use Rattle.lines.specs.Frames.{frame_of, code_of}
 use Rattle.lines.specs.Spelled.{Spelled}
 
 -- the upper-case digit of a value below 16
@@ -23,7 +23,7 @@ abbrev pub high-four : ℕ → List ℕ
 high-four n = n / 16777216 % 256 ∷ n / 65536 % 256 ∷ n / 256 % 256 ∷ n % 256 ∷ []
 
 abbrev pub bytes_of : Frame → List ℕ
-bytes_of (Start ports arbiter mark first) = 0 ∷ ports ∷ arbiter ∷ (high-four mark ++ high-four first)
+bytes_of (Start ports arbiter mark first) = 0 ∷ ports ∷ code_of arbiter ∷ (high-four mark ++ high-four first)
 bytes_of (Route input vci output new_vci) = 1 ∷ input ∷ (high-two vci ++ (output ∷ high-two new_vci))
 bytes_of (Cell input cell) = 2 ∷ input ∷ cell
 bytes_of Close = 3 ∷ []
@@ -32,9 +32,9 @@ bytes_of Close = 3 ∷ []
 abbrev pub canonical : Frame → List ℕ
 canonical f = spell (bytes_of f)
 
--- what a frame can hold: numbers that fit their bytes, a code that stands for an arbiter, a cell of 53 bytes
+-- what a frame can hold: numbers that fit their bytes, a cell of 53 bytes
 abbrev pub Sound : Frame → Type 0
-Sound (Start ports arbiter mark first) = (ports < 256) × (is_ok (kind_of arbiter) ≡ true) × (mark < 4294967296) × (first < 4294967296)
+Sound (Start ports arbiter mark first) = (ports < 256) × (mark < 4294967296) × (first < 4294967296)
 Sound (Route input vci output new_vci) = (input < 256) × (vci < 65536) × (output < 256) × (new_vci < 65536)
 Sound (Cell input cell) = (input < 256) × (length cell ≡ 53) × ((i : ℕ) → slice_index cell i < 256)
 Sound Close = Unit {0}

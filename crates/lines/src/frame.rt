@@ -1,12 +1,13 @@
 //! The frame that one line spells.
 
 ghost use Rattle.std.specs.Prelude.{◌≡◌, ◌+◌, ◌≤◌, length};
-ghost use Rattle.lines.specs.Frames.{cell_in, close_in, four, frame_in, frame_of, kind_of, route_in, start_in, two};
+ghost use Rattle.lines.specs.Frames.{cell_in, close_in, code_of, four, frame_in, frame_of, kind_of, route_in, start_in, two};
 ghost use Rattle.lines.specs.Spelled.{FirstWrong, OneReading};
 ghost use Rattle.lines.specs.Spelling.{FramesSpelled};
 
 use crate::hex::decode;
 use refusals::Refusal;
+use std::fmt;
 
 /// The longest line, in bytes, without the 0A that ends it.
 pub const LONGEST: usize = 200;
@@ -20,8 +21,7 @@ pub enum Frame {
     /// 00: the switch that the recording was made on.
     Start {
         ports: u8,
-        /// The code as it was read; `arbiter_kind` says what it means.
-        arbiter: u8,
+        arbiter: ArbiterKind,
         mark: u32,
         first_slot: u32,
     },
@@ -48,14 +48,37 @@ pub enum ArbiterKind {
     Ripple,
 }
 
-/// The arbiter that a code in a frame stands for.
-pub fn arbiter_kind(code: u8) -> Result<ArbiterKind, Refusal>
-    ensures { result ≡ kind_of code }
-{
-    match code {
-        1 => Ok(ArbiterKind::Diagonal),
-        2 => Ok(ArbiterKind::Ripple),
-        _ => Err(Refusal::UnknownArbiter),
+impl TryFrom<u8> for ArbiterKind {
+    type Error = Refusal;
+
+    ghost try_from_gives = { λ code r. r ≡ kind_of code };
+
+    fn try_from(code: u8) -> Result<ArbiterKind, Refusal> {
+        match code {
+            1 => Ok(ArbiterKind::Diagonal),
+            2 => Ok(ArbiterKind::Ripple),
+            _ => Err(Refusal::UnknownArbiter),
+        }
+    }
+}
+
+impl From<ArbiterKind> for u8 {
+    ghost from_gives = { λ kind code. code ≡ code_of kind };
+
+    fn from(kind: ArbiterKind) -> u8 {
+        match kind {
+            ArbiterKind::Diagonal => 1,
+            ArbiterKind::Ripple => 2,
+        }
+    }
+}
+
+impl fmt::Display for ArbiterKind {
+    fn fmt<W: fmt::Write>(&self, f: &mut fmt::Formatter<W>) -> fmt::Result {
+        f.write_str(match self {
+            ArbiterKind::Diagonal => "diagonal",
+            ArbiterKind::Ripple => "ripple",
+        })
     }
 }
 
@@ -84,16 +107,12 @@ fn start_in(bytes: &[u8]) -> Result<Frame, Refusal>
     if bytes.len() != 11 {
         return Err(Refusal::FrameLength);
     }
-    let arbiter = bytes[2];
-    match arbiter_kind(arbiter) {
-        Ok(_) => Ok(Frame::Start {
-            ports: bytes[1],
-            arbiter,
-            mark: read_four(bytes, 3),
-            first_slot: read_four(bytes, 7),
-        }),
-        Err(refusal) => Err(refusal),
-    }
+    Ok(Frame::Start {
+        ports: bytes[1],
+        arbiter: ArbiterKind::try_from(bytes[2])?,
+        mark: read_four(bytes, 3),
+        first_slot: read_four(bytes, 7),
+    })
 }
 
 fn route_in(bytes: &[u8]) -> Result<Frame, Refusal>

@@ -6,6 +6,6 @@ mod hex;
 mod reader;
 mod written;
 
-pub use frame::{ArbiterKind, Frame, LONGEST, arbiter_kind, frame_of};
+pub use frame::{ArbiterKind, Frame, LONGEST, frame_of};
 pub use reader::{Fed, LineReader, SlotLine};
 pub use written::{DepartureLine, closing_line, departure_line, refusal_line};

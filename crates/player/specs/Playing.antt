@@ -12,7 +12,6 @@ use Rattle.lines.specs.declared.frame.ArbiterKind.TheVariants.{Diagonal as Diago
 use Rattle.lines.specs.declared.frame.Frame.{Frame}
 use Rattle.lines.specs.declared.frame.Frame.TheVariants.{Start, Route, Cell, Close}
 use Rattle.lines.specs.declared.reader.SlotLine.{SlotLine}
-use Rattle.lines.specs.Frames.{kind_of}
 use Rattle.machine.specs.Standing.{Standing, Told, Ended, routing, arriving, ending, is_open, starting}
 use Rattle.player.specs.Written.{ended_lines, refusal_line, answer_lines, silent}
 
@@ -37,7 +36,7 @@ answered lines n t = record { stands = t.standing; written = answer_lines lines 
 
 -- a frame of the line n on a machine: a second start is out of place; a cell and a close open a slot first if none is open
 abbrev pub on_machine : {A : Type 0} → Meaning A → Standing A → ℕ → Frame → Played (Standing A)
-on_machine a s n (Start ports code mark first) = record { stands = s; written = refusal_line n OutOfPlace }
+on_machine a s n (Start ports kind mark first) = record { stands = s; written = refusal_line n OutOfPlace }
 on_machine a s n (Route i c o w) = answered silent n (routing s i c o w)
 on_machine a s n (Cell i x) = answered silent n (arriving s i x)
 on_machine a s n Close = answered ended_lines n (ending a s)
@@ -51,10 +50,6 @@ abbrev pub with_ports : ArbiterKind → Result PortCount Refusal → (mark first
 with_ports kind (Ok c) mark first = Ok (named kind c mark first)
 with_ports kind (Err k) mark first = Err k
 
-abbrev pub with_kind : Result ArbiterKind Refusal → (ports mark first : ℕ) → Result Stands Refusal
-with_kind (Ok kind) ports mark first = with_ports kind (counted ports) mark first
-with_kind (Err k) ports mark first = Err k
-
 -- it stands once it is made; refused, nothing stands
 abbrev pub begun : ℕ → Result Stands Refusal → Played Stands
 begun n (Ok s) = record { stands = s; written = [] }
@@ -62,7 +57,7 @@ begun n (Err k) = record { stands = nothing; written = refusal_line n k }
 
 -- the first frame that is carried out is a start
 abbrev pub beginning : ℕ → Frame → Played Stands
-beginning n (Start ports code mark first) = begun n (with_kind (kind_of code) ports mark first)
+beginning n (Start ports kind mark first) = begun n (with_ports kind (counted ports) mark first)
 beginning n (Route i c o w) = record { stands = nothing; written = refusal_line n OutOfPlace }
 beginning n (Cell i x) = record { stands = nothing; written = refusal_line n OutOfPlace }
 beginning n Close = record { stands = nothing; written = refusal_line n OutOfPlace }

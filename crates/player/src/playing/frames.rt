@@ -1,18 +1,17 @@
 //! Frames played, one by one.
 
 ghost use Rattle.arbiters.specs.Kinds.{counted};
-ghost use Rattle.lines.specs.Frames.{kind_of};
 ghost use Rattle.machine.specs.Machines.{standing};
 ghost use Rattle.player.specs.Players.{stands_as};
 ghost use Rattle.player.specs.Recording.{maybe_played};
-ghost use Rattle.player.specs.Playing.{Does, beginning, frame_played, last_lines, last_of, line_played, nothing, on_machine, with_kind, with_ports};
+ghost use Rattle.player.specs.Playing.{Does, beginning, frame_played, last_lines, last_of, line_played, nothing, on_machine, with_ports};
 ghost use Rattle.std.specs.Prelude.{◌≡◌, ◌++◌, IfOk, OnOk};
 ghost use Rattle.switch.specs.Seen.{meaning, told};
 
 use super::Playing;
 use crate::writing::{write_ended, write_refusal};
 use arbiters::{Arbiter, Diagonal, Ripple};
-use lines::{ArbiterKind, Frame, SlotLine, arbiter_kind};
+use lines::{ArbiterKind, Frame, SlotLine};
 use machine::Machine;
 use refusals::Refusal;
 use std::alloc::{AllocError, Global};
@@ -63,7 +62,7 @@ fn end_open<A: Arbiter>(machine: &mut Machine<A>, out: &mut Vec<u8>) -> Result<(
 }
 
 impl Playing {
-    /// The machine of an arbiter of this kind, just made, or why there is none.
+    /// The machine that a start frame names, its arbiter just made, or why there is none.
     fn of_kind(
         heap: Global,
         kind: ArbiterKind,
@@ -91,22 +90,6 @@ impl Playing {
         }
     }
 
-    /// The machine that a start frame names, or why there is none.
-    fn named(
-        heap: Global,
-        ports: u8,
-        arbiter: u8,
-        mark: u32,
-        first_slot: u32,
-    ) -> Result<Result<Playing, Refusal>, AllocError>
-        ensures { IfOk result (λ n. told stands_as n ≡ with_kind (kind_of arbiter) ports mark first_slot) }
-    {
-        match arbiter_kind(arbiter) {
-            Ok(kind) => Playing::of_kind(heap, kind, ports, mark, first_slot),
-            Err(refusal) => Ok(Err(refusal)),
-        }
-    }
-
     /// Does the first frame that is carried out, or refuses it.
     fn begin(
         &mut self,
@@ -124,7 +107,7 @@ impl Playing {
                 arbiter,
                 mark,
                 first_slot,
-            } => match Playing::named(heap, *ports, *arbiter, *mark, *first_slot)? {
+            } => match Playing::of_kind(heap, *arbiter, *ports, *mark, *first_slot)? {
                 Ok(playing) => {
                     *self = playing;
                     Ok(())
