@@ -15,6 +15,15 @@ pub const LONGEST: usize = 200;
 /// The most bytes that a line can spell.
 const MOST: usize = 100;
 
+/// The kinds of frames: the first byte that a line spells.
+const START: u8 = 0x00;
+
+const ROUTE: u8 = 0x01;
+
+const CELL: u8 = 0x02;
+
+const CLOSE: u8 = 0x03;
+
 /// What one line of a recording asks for.
 #[derive(Clone, Copy)]
 pub enum Frame {
@@ -82,63 +91,43 @@ impl fmt::Display for ArbiterKind {
     }
 }
 
-/// The number in two bytes, the high byte first.
-fn read_two(bytes: &[u8], at: usize) -> u16
-    requires { at + 2 ≤ length bytes.now }
-    ensures { result ≡ two bytes.now at }
-{
-    bytes[at] as u16 * 256 + bytes[at + 1] as u16
-}
-
-/// The number in four bytes, the high byte first.
-fn read_four(bytes: &[u8], at: usize) -> u32
-    requires { at + 4 ≤ length bytes.now }
-    ensures { result ≡ four bytes.now at }
-{
-    bytes[at] as u32 * 16777216
-        + bytes[at + 1] as u32 * 65536
-        + bytes[at + 2] as u32 * 256
-        + bytes[at + 3] as u32
-}
-
 fn start_in(bytes: &[u8]) -> Result<Frame, Refusal>
     ensures { result ≡ start_in bytes.now }
 {
-    if bytes.len() != 11 {
+    let &[_, ports, code, m0, m1, m2, m3, s0, s1, s2, s3] = bytes else {
         return Err(Refusal::FrameLength);
-    }
+    };
     Ok(Frame::Start {
-        ports: bytes[1],
-        arbiter: ArbiterKind::try_from(bytes[2])?,
-        mark: read_four(bytes, 3),
-        first_slot: read_four(bytes, 7),
+        ports,
+        arbiter: ArbiterKind::try_from(code)?,
+        mark: u32::from_be_bytes([m0, m1, m2, m3]),
+        first_slot: u32::from_be_bytes([s0, s1, s2, s3]),
     })
 }
 
 fn route_in(bytes: &[u8]) -> Result<Frame, Refusal>
     ensures { result ≡ route_in bytes.now }
 {
-    if bytes.len() != 7 {
+    let &[_, input, v0, v1, output, n0, n1] = bytes else {
         return Err(Refusal::FrameLength);
-    }
+    };
     Ok(Frame::Route {
-        input: bytes[1],
-        vci: read_two(bytes, 2),
-        output: bytes[4],
-        new_vci: read_two(bytes, 5),
+        input,
+        vci: u16::from_be_bytes([v0, v1]),
+        output,
+        new_vci: u16::from_be_bytes([n0, n1]),
     })
 }
 
 fn cell_in(bytes: &[u8]) -> Result<Frame, Refusal>
     ensures { result ≡ cell_in bytes.now }
 {
-    if bytes.len() != 55 {
+    let [_, input, cell @ ..] = bytes else {
         return Err(Refusal::FrameLength);
-    }
-    let mut cell = [0u8; 53];
-    cell.copy_from_slice(&bytes[2..55]);
+    };
+    let cell = <[u8; 53]>::try_from(cell).map_err(|_| Refusal::FrameLength)?;
     Ok(Frame::Cell {
-        input: bytes[1],
+        input: *input,
         cell,
     })
 }
@@ -146,24 +135,22 @@ fn cell_in(bytes: &[u8]) -> Result<Frame, Refusal>
 fn close_in(bytes: &[u8]) -> Result<Frame, Refusal>
     ensures { result ≡ close_in bytes.now }
 {
-    if bytes.len() != 1 {
-        return Err(Refusal::FrameLength);
+    match bytes {
+        [_] => Ok(Frame::Close),
+        _ => Err(Refusal::FrameLength),
     }
-    Ok(Frame::Close)
 }
 
 /// The frame in the bytes that a line spells. The first byte is the frame's kind.
 fn frame_in(bytes: &[u8]) -> Result<Frame, Refusal>
     ensures { result ≡ frame_in bytes.now }
 {
-    if bytes.len() == 0 {
-        return Err(Refusal::FrameLength);
-    }
-    match bytes[0] {
-        0 => start_in(bytes),
-        1 => route_in(bytes),
-        2 => cell_in(bytes),
-        3 => close_in(bytes),
+    match bytes {
+        [] => Err(Refusal::FrameLength),
+        [START, ..] => start_in(bytes),
+        [ROUTE, ..] => route_in(bytes),
+        [CELL, ..] => cell_in(bytes),
+        [CLOSE, ..] => close_in(bytes),
         _ => Err(Refusal::UnknownKind),
     }
 }
