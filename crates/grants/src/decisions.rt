@@ -19,9 +19,9 @@ pub fn diagonal_grants(ports: PortCount, turn: usize, requests: Table) -> Table
     let mut free = Table::square(n);
     'diagonals: for k in 0..n {
         let wanted = requests.and(free);
-        let Some(_) = wanted.first() else {
+        if wanted.is_empty() {
             return grants;
-        };
+        }
         let sum = wrapped(first + k, n);
         let diagonal = Table::of_sum(sum).or(Table::of_sum(sum + n));
         // No two pairs of a diagonal share a port, so all of them that are free are granted at once.

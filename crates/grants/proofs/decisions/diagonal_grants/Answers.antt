@@ -1,6 +1,7 @@
-use Rattle.std.proofs.Common.{◌≡◌, ℕ, ◌+◌, ◌%◌, ◌<◌, eqb, ap, ◌∙◌, subst, arith}
+use Rattle.std.proofs.Common.{◌≡◌, ℕ, ◌+◌, ◌%◌, ◌<◌, eqb, sym, ap, ◌∙◌, subst, arith}
 use Rattle.std.proofs.lemmas.Nat.{mod_below}
 use Rattle.pairs.specs.Tables.{holds, table_of, within}
+use Rattle.pairs.proofs.Sizes.{none-held}
 use Rattle.grants.specs.Diagonal.{diagonal_granted}
 use Rattle.grants.proofs.Fronts.{Front, begin, finish, step, stop}
 use Rattle.grants.proofs.decisions.diagonal_grants.Goals as goal
@@ -29,9 +30,9 @@ returns c =
     (finish (holds c.args.requests) n (c.args.turn % n) c.diagonals.free c.diagonals.grants (mod_below c.args.turn n (omega arith))
     (subst (λ (m : ℕ). Front (holds c.args.requests) n (c.args.turn % n) m c.diagonals.free c.diagonals.grants) e c.diagonals.invariant))
 
-pub returns-in_default : goal.returns-in_default
-returns-in_default c =
+pub returns-then-is_empty : goal.returns-then-is_empty
+returns-then-is_empty c =
     let n : ℕ = c.number-n.result in
     subst (λ (m : ℕ). c.diagonals.grants ≡ table_of (within m (diagonal_granted (holds c.args.requests) m (c.args.turn % m)))) c.number-n.ensures
     (stop c.args.requests c.and-wanted.result n (c.args.turn % n) c.diagonals.k c.diagonals.free c.diagonals.grants (omega arith) c.diagonals.invariant
-    c.and-wanted.ensures c.in_default.ensures)
+    c.and-wanted.ensures (none-held c.and-wanted.result (sym c.is_empty.ensures ∙ c.if-is_empty.true)))
