@@ -8,6 +8,7 @@ pub mod Slots
 pub mod Reservations
 pub mod Kinds
 pub mod Verdicts
+pub mod KindsLemmas
 pub mod ReservationsLemmas
 pub mod PeriodsLemmas
 pub mod SlotGrants

@@ -6,23 +6,21 @@ use Rattle.pairs.specs.declared.table.Table.{Table}
 use Rattle.pairs.specs.Tables.{table_of}
 use Rattle.arbiters.specs.declared.reservation.Reservation.{Reservation}
 use Rattle.arbiters.specs.declared.reservation.Unreserved.{Unreserved}
+use Rattle.arbiters.specs.Meaning.{Meaning}
 use Rattle.arbiters.specs.Periods.{lengthened, longest, due, passed}
 use Rattle.arbiters.specs.Slots.{by_another, replaced, reserved_grants}
 
 module _ {A : Type 0} where
-  abbrev pub bound_on : (A → ℕ) → Reservation A → ℕ
-  bound_on bound s = longest s.period.slots (bound s.below)
-
-  abbrev pub wait_on : (A → ℕ → ℕ → ℕ) → Reservation A → ℕ → ℕ → ℕ
-  wait_on wait s i o = lengthened s.period.slots s.period.left (wait s.below i o)
-
-  -- in the reserved slot the reserved pairs go first; in any other slot the arbiter below answers
-  abbrev pub answer_on : (A → ℕ) → (A → Table → Table) → Reservation A → Table → Table
-  answer_on ports answer s r = cond (due s.period) (reserved_grants (ports s.below) s.reserved.pairs r) (answer s.below r)
-
-  -- a slot of the period passes; in the reserved slot the arbiter below stays as it is
-  abbrev pub after_on : (A → Table → A) → Reservation A → Table → Reservation A
-  after_on after s r = record { below = cond (due s.period) s.below (after s.below r); reserved = s.reserved; period = passed s.period }
+  -- what a reservation means on an arbiter that means m: the waits are longer by the reserved slots, in each of which the reserved pairs
+  -- go first and the arbiter below stays as it is; in any other slot that arbiter answers
+  abbrev pub reservations : Meaning A → Meaning (Reservation A)
+  reservations m = record {
+    ports = λ s. m.ports s.below;
+    bound = λ s. longest s.period.slots (m.bound s.below);
+    wait = λ s i o. lengthened s.period.slots s.period.left (m.wait s.below i o);
+    answer = λ s r. cond (due s.period) (reserved_grants (m.ports s.below) s.reserved.pairs r) (m.answer s.below r);
+    after = λ s r. record { below = cond (due s.period) s.below (m.after s.below r); reserved = s.reserved; period = passed s.period };
+  }
 
   -- a reservation with no pair, whose reserved slot is the last of its first period
   pub record Fresh (below : A) (k : ℕ) (s : Reservation A) : Type 0 where

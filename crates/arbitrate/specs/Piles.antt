@@ -1,31 +1,32 @@
 -- What an arbiter with up to three reservations on it means, from what the arbiter below means.
 use Rattle.std.specs.Prelude.{ℕ}
 use Rattle.pairs.specs.declared.table.Table.{Table}
-use Rattle.arbiters.specs.Reservations.{after_on, answer_on, wait_on}
+use Rattle.arbiters.specs.Meaning.{Meaning}
+use Rattle.arbiters.specs.Reservations.{reservations}
 use Rattle.arbitrate.specs.declared.pile.Pile.{Pile}
 use Rattle.arbitrate.specs.declared.pile.Pile.TheVariants.{Bare, One, Two, Three}
 
-module _ {A : Type 0} where
-  abbrev pub ports_of : (A → ℕ) → Pile A → ℕ
-  ports_of ports (Bare a) = ports a
-  ports_of ports (One s) = ports s.below
-  ports_of ports (Two s) = ports s.below.below
-  ports_of ports (Three s) = ports s.below.below.below
+module _ {A : Type 0} (m : Meaning A) where
+  abbrev pub ports_of : Pile A → ℕ
+  ports_of (Bare a) = m.ports a
+  ports_of (One s) = m.ports s.below
+  ports_of (Two s) = m.ports s.below.below
+  ports_of (Three s) = m.ports s.below.below.below
 
-  abbrev pub wait_of : (A → ℕ → ℕ → ℕ) → Pile A → ℕ → ℕ → ℕ
-  wait_of wait (Bare a) = wait a
-  wait_of wait (One s) = wait_on wait s
-  wait_of wait (Two s) = wait_on (wait_on wait) s
-  wait_of wait (Three s) = wait_on (wait_on (wait_on wait)) s
+  abbrev pub wait_of : Pile A → ℕ → ℕ → ℕ
+  wait_of (Bare a) = m.wait a
+  wait_of (One s) = (reservations m).wait s
+  wait_of (Two s) = (reservations (reservations m)).wait s
+  wait_of (Three s) = (reservations (reservations (reservations m))).wait s
 
-  abbrev pub answer_of : (A → ℕ) → (A → Table → Table) → Pile A → Table → Table
-  answer_of ports answer (Bare a) = answer a
-  answer_of ports answer (One s) = answer_on ports answer s
-  answer_of ports answer (Two s) = answer_on (λ t. ports t.below) (answer_on ports answer) s
-  answer_of ports answer (Three s) = answer_on (λ t. ports t.below.below) (answer_on (λ t. ports t.below) (answer_on ports answer)) s
+  abbrev pub answer_of : Pile A → Table → Table
+  answer_of (Bare a) = m.answer a
+  answer_of (One s) = (reservations m).answer s
+  answer_of (Two s) = (reservations (reservations m)).answer s
+  answer_of (Three s) = (reservations (reservations (reservations m))).answer s
 
-  abbrev pub after_of : (A → Table → A) → Pile A → Table → Pile A
-  after_of after (Bare a) r = Bare (after a r)
-  after_of after (One s) r = One (after_on after s r)
-  after_of after (Two s) r = Two (after_on (after_on after) s r)
-  after_of after (Three s) r = Three (after_on (after_on (after_on after)) s r)
+  abbrev pub after_of : Pile A → Table → Pile A
+  after_of (Bare a) r = Bare (m.after a r)
+  after_of (One s) r = One ((reservations m).after s r)
+  after_of (Two s) r = Two ((reservations (reservations m)).after s r)
+  after_of (Three s) r = Three ((reservations (reservations (reservations m))).after s r)

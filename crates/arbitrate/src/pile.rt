@@ -20,7 +20,7 @@ pub enum Pile<A: Arbiter> {
 impl<A: Arbiter> Pile<A> {
     /// The wait of a pair.
     pub fn wait(&self, input: u8, output: u8) -> u16
-        ensures { result ≡ told (ports_of A.Arbiter.ports self.now) (wait_of A.Arbiter.wait self.now) input output }
+        ensures { result ≡ told (ports_of A.meaning self.now) (wait_of A.meaning self.now) input output }
     {
         match self {
             Pile::Bare(arbiter) => arbiter.wait(input, output),
@@ -32,8 +32,8 @@ impl<A: Arbiter> Pile<A> {
 
     /// The grants to the requests.
     pub fn decide(&mut self, requests: Table) -> Table
-        ensures answer { result ≡ answer_of A.Arbiter.ports A.Arbiter.answer self.old requests }
-        ensures after { self.new ≡ after_of A.Arbiter.after self.old requests }
+        ensures answer { result ≡ answer_of A.meaning self.old requests }
+        ensures after { self.new ≡ after_of A.meaning self.old requests }
     {
         match self {
             Pile::Bare(arbiter) => arbiter.decide(requests),

@@ -1,40 +1,21 @@
 -- A pile of three reservations on a diagonal arbiter, and what it means.
-use Rattle.std.specs.Prelude.{◌≡◌, ℕ, ◌-◌, true, false, Ok, Err, Result}
+use Rattle.std.specs.Prelude.{◌≡◌, ℕ, true, false, Ok, Err, Result}
 use Rattle.refusals.specs.declared.refusal.Refusal.{Refusal}
 use Rattle.refusals.specs.declared.refusal.Refusal.TheVariants.{PeriodRange}
-use Rattle.grants.specs.Diagonal.{diagonal_wait}
 use Rattle.arbiters.specs.declared.diagonal.Diagonal.{Diagonal}
 use Rattle.arbiters.specs.declared.reservation.Reservation.{Reservation}
-use Rattle.arbiters.specs.Diagonal.{grants_at, moved}
+use Rattle.arbiters.specs.Kinds.{diagonals}
 use Rattle.arbiters.specs.Meaning.{Meaning}
-use Rattle.arbiters.specs.Reservations.{Fresh, bound_on, wait_on, answer_on, after_on}
+use Rattle.arbiters.specs.Reservations.{Fresh, reservations}
 use Rattle.delays.specs.declared.periods.Periods.{Periods}
 use Rattle.delays.specs.Delays.{longest_wait, period_fits}
 
 abbrev pub Pile : Type 0
 Pile = Reservation (Reservation (Reservation Diagonal))
 
--- what the diagonal arbiter means, what a reservation means on an arbiter, and so what the pile means
-abbrev pub on_diagonals : Meaning Diagonal
-on_diagonals = record {
-  ports = λ s. s.ports.number;
-  bound = λ s. s.ports.number - 1;
-  wait = λ s. diagonal_wait s.ports.number s.turn;
-  answer = grants_at;
-  after = λ s _. moved s;
-}
-
-abbrev pub reserving : {A : Type 0} → Meaning A → Meaning (Reservation A)
-reserving a = record {
-  ports = λ s. a.ports s.below;
-  bound = bound_on a.bound;
-  wait = wait_on a.wait;
-  answer = answer_on a.ports a.answer;
-  after = after_on a.after;
-}
-
+-- what the pile means: what a reservation means on an arbiter, three times, on what the diagonal arbiter means
 abbrev pub piled : Meaning Pile
-piled = reserving (reserving (reserving on_diagonals))
+piled = reservations (reservations (reservations diagonals))
 
 -- its periods
 abbrev pub periods_of : Pile → Periods

@@ -4,8 +4,9 @@ use Rattle.refusals.specs.declared.refusal.Refusal.{Refusal}
 use Rattle.refusals.specs.declared.refusal.Refusal.TheVariants.{PeriodRange, PortCount}
 use Rattle.arbiters.specs.declared.diagonal.Diagonal.{Diagonal}
 use Rattle.arbiters.specs.declared.reservation.Reservation.{Reservation}
+use Rattle.arbiters.specs.Kinds.{diagonals}
 use Rattle.arbiters.specs.Periods.{longest}
-use Rattle.arbiters.specs.Reservations.{Fresh, bound_on}
+use Rattle.arbiters.specs.Reservations.{Fresh, reservations}
 use Rattle.piles.specs.Fits.{period_fits, ports_fit}
 
 abbrev pub Pile : Type 0
@@ -13,7 +14,7 @@ Pile = Reservation (Reservation (Reservation Diagonal))
 
 -- the bound of the pile, as the trait gives it at this type
 abbrev pub bound : Pile → ℕ
-bound = bound_on (bound_on (bound_on (λ (s : Diagonal). s.ports.number - 1)))
+bound = (reservations (reservations (reservations diagonals))).bound
 
 -- ports that do not fit are refused first, and then a period that does not
 abbrev pub refusal : ℕ → ℕ → ℕ → ℕ → Option Refusal

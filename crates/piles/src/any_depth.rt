@@ -20,7 +20,7 @@ pub trait Deep: Arbiter + Drop {
 
     /// A new pile.
     fn new(ports: u8, slots: u8) -> Result<Self, Refusal>
-        ensures { Made depth ports slots (lowest ports) (fresh ports slots) Self.Arbiter.bound result };
+        ensures { Made depth ports slots (lowest ports) (fresh ports slots) Self.Arbiter.meaning.bound result };
 }
 
 impl Deep for Diagonal {

@@ -3,7 +3,6 @@ use Rattle.std.specs.Prelude.{◌≡◌, ℕ, List, [], ◌∷◌, length, Ok, E
 use Rattle.cells.specs.Header.{vci_of}
 use Rattle.std.specs.Borrow.{Bor}
 use Rattle.outgoing.specs.Results.{answered, written, handed}
-use Rattle.pairs.specs.declared.table.Table.{Table}
 use Rattle.pairs.specs.Tables.{inside}
 use Rattle.queues.specs.Queues.{Queues, put, joined}
 use Rattle.queues.specs.Queues as Queued
@@ -24,10 +23,6 @@ use Rattle.switch.specs.declared.tickets.ArrivalTicket.{ArrivalTicket}
 use Rattle.switch.specs.declared.tickets.GrantTicket.{GrantTicket}
 use Rattle.switch.specs.declared.tickets.Returned.{Returned}
 use Rattle.switch.specs.Ready.{cells_of}
-
--- an arbiter's five functions in one
-abbrev pub meaning : {A : Type 0} → (A → ℕ) → (A → ℕ) → (A → ℕ → ℕ → ℕ) → (A → Table → Table) → (A → Table → A) → Meaning A
-meaning ports bound wait answer after = record { ports = ports; bound = bound; wait = wait; answer = answer; after = after }
 
 abbrev pub view : {A : Type 0} {G : Ghosts A} → Switch A G → View A
 view s = record {

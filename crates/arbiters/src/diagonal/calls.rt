@@ -1,13 +1,9 @@
 //! The calls of the diagonal arbiter.
 
-ghost use Rattle.std.specs.Prelude.{◌≡◌, ◌-◌, refl};
+ghost use Rattle.std.specs.Prelude.{◌≡◌};
 ghost use Rattle.arbiters.specs.Diagonal.{Made, grants_at, moved};
-ghost use Rattle.grants.specs.Diagonal.{diagonal_wait};
-ghost use Rattle.pairs.specs.Tables.{holds};
-ghost use Rattle.grants.proofs.Diagonals.{decided};
-ghost use Rattle.arbiters.specs.Verdicts;
-ghost use Rattle.std.proofs.Common.{arith};
-ghost use Rattle.grants.proofs.Modulo.{wait-lt};
+ghost use Rattle.arbiters.specs.Kinds.{diagonals};
+ghost use Rattle.arbiters.specs.KindsLemmas.{diagonals-lawful};
 
 use crate::arbiter::Arbiter;
 use crate::diagonal::Diagonal;
@@ -40,32 +36,9 @@ impl Diagonal {
 }
 
 impl Arbiter for Diagonal {
-    ghost ports = { λ s. s.ports.number };
+    ghost meaning = { diagonals };
 
-    ghost bound = { λ s. s.ports.number - 1 };
-
-    ghost wait = { λ s. diagonal_wait s.ports.number s.turn };
-
-    ghost answer = { grants_at };
-
-    ghost after = { λ s _. moved s };
-
-    ghost requested = { λ s r. Verdicts.requested r (grants_at s r) s.ports.eight refl (decided (holds r) s.ports.number s.turn s.place) };
-
-    ghost apart = { λ s r. Verdicts.apart r (grants_at s r) s.ports.eight refl (decided (holds r) s.ports.number s.turn s.place) };
-
-    ghost maximal = { λ s r. Verdicts.maximal r (grants_at s r) s.ports.eight refl (decided (holds r) s.ports.number s.turn s.place) };
-
-    ghost nearer = { λ s r. Verdicts.nearer r (grants_at s r) s.ports.eight refl (decided (holds r) s.ports.number s.turn s.place) };
-
-    ghost within = { λ s.
-        record {
-          two = s.ports.two;
-          eight = s.ports.eight;
-          waits = λ i o _ _. omega (arith, wait-lt s.ports.number s.turn s.place i o);
-          same-ports = λ r. refl;
-          same-bound = λ r. refl;
-        } };
+    ghost lawful = { diagonals-lawful };
 
     fn ports(&self) -> PortCount {
         self.ports

@@ -1,8 +1,8 @@
 //! The calls of a reservation.
 
-ghost use Rattle.arbiters.specs.Reservations.{Made, after_on, answer_on, bound_on, pairs_after, reserving, wait_on};
+ghost use Rattle.arbiters.specs.Reservations.{Made, pairs_after, reservations, reserving};
 ghost use Rattle.std.specs.Prelude.{◌≡◌};
-ghost use Rattle.arbiters.specs.ReservationsLemmas as on;
+ghost use Rattle.arbiters.specs.ReservationsLemmas.{reservations-lawful};
 
 use crate::arbiter::Arbiter;
 use crate::period::Period;
@@ -29,7 +29,7 @@ impl<A: Arbiter> Reservation<A> {
 
     /// Reserves the output for the input, in place of the output that the input had.
     pub fn reserve(&mut self, input: u8, output: u8) -> Result<(), Refusal>
-        ensures answer { result ≡ reserving (A.Arbiter.ports self.old.below) self.old.reserved.pairs input output }
+        ensures answer { result ≡ reserving (A.Arbiter.meaning.ports self.old.below) self.old.reserved.pairs input output }
         ensures pairs { self.new.reserved.pairs ≡ pairs_after result self.old.reserved.pairs input output }
         ensures below { self.new.below ≡ self.old.below }
         ensures period { self.new.period ≡ self.old.period }
@@ -47,25 +47,9 @@ impl<A: Arbiter> Reservation<A> {
 }
 
 impl<A: Arbiter> Arbiter for Reservation<A> {
-    ghost ports = { λ s. A.Arbiter.ports s.below };
+    ghost meaning = { reservations A.Arbiter.meaning };
 
-    ghost bound = { bound_on A.Arbiter.bound };
-
-    ghost wait = { wait_on A.Arbiter.wait };
-
-    ghost answer = { answer_on A.Arbiter.ports A.Arbiter.answer };
-
-    ghost after = { after_on A.Arbiter.after };
-
-    ghost requested = { λ s r. on.requested A.Arbiter.ports A.Arbiter.bound A.Arbiter.wait A.Arbiter.answer A.Arbiter.after A.Arbiter.within s r (A.Arbiter.requested s.below r) };
-
-    ghost apart = { λ s r. on.apart A.Arbiter.ports A.Arbiter.bound A.Arbiter.wait A.Arbiter.answer A.Arbiter.after A.Arbiter.within s r (A.Arbiter.apart s.below r) };
-
-    ghost maximal = { λ s r. on.maximal A.Arbiter.ports A.Arbiter.bound A.Arbiter.wait A.Arbiter.answer A.Arbiter.after A.Arbiter.within s r (A.Arbiter.maximal s.below r) };
-
-    ghost nearer = { λ s r. on.nearer A.Arbiter.ports A.Arbiter.bound A.Arbiter.wait A.Arbiter.answer A.Arbiter.after A.Arbiter.within s r (A.Arbiter.nearer s.below r) };
-
-    ghost within = { λ s. on.within_on A.Arbiter.ports A.Arbiter.bound A.Arbiter.wait A.Arbiter.answer A.Arbiter.after A.Arbiter.within s };
+    ghost lawful = { reservations-lawful A.Arbiter.meaning A.Arbiter.lawful };
 
     fn ports(&self) -> PortCount {
         self.below.ports()

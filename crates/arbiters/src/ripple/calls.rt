@@ -1,12 +1,9 @@
 //! The calls of the ripple arbiter.
 
-ghost use Rattle.std.specs.Prelude.{◌≡◌, ◌-◌, ◌*◌, refl};
+ghost use Rattle.std.specs.Prelude.{◌≡◌};
 ghost use Rattle.arbiters.specs.Ripple.{Made, grants_at, moved};
-ghost use Rattle.grants.specs.Ripple.{ripple_wait};
-ghost use Rattle.pairs.specs.Tables.{holds};
-ghost use Rattle.grants.proofs.Rows.{decided, wait-lt};
-ghost use Rattle.arbiters.specs.Verdicts;
-ghost use Rattle.std.proofs.Common.{arith};
+ghost use Rattle.arbiters.specs.Kinds.{ripples};
+ghost use Rattle.arbiters.specs.KindsLemmas.{ripples-lawful};
 
 use crate::arbiter::Arbiter;
 use crate::ripple::Ripple;
@@ -40,32 +37,9 @@ impl Ripple {
 }
 
 impl Arbiter for Ripple {
-    ghost ports = { λ s. s.ports.number };
+    ghost meaning = { ripples };
 
-    ghost bound = { λ s. s.ports.number * s.ports.number - 1 };
-
-    ghost wait = { λ s. ripple_wait s.ports.number s.turn };
-
-    ghost answer = { grants_at };
-
-    ghost after = { λ s _. moved s };
-
-    ghost requested = { λ s r. Verdicts.requested r (grants_at s r) s.ports.eight refl (decided s.ports.number s.turn s.place (holds r)) };
-
-    ghost apart = { λ s r. Verdicts.apart r (grants_at s r) s.ports.eight refl (decided s.ports.number s.turn s.place (holds r)) };
-
-    ghost maximal = { λ s r. Verdicts.maximal r (grants_at s r) s.ports.eight refl (decided s.ports.number s.turn s.place (holds r)) };
-
-    ghost nearer = { λ s r. Verdicts.nearer r (grants_at s r) s.ports.eight refl (decided s.ports.number s.turn s.place (holds r)) };
-
-    ghost within = { λ s.
-        record {
-          two = s.ports.two;
-          eight = s.ports.eight;
-          waits = λ i o _ _. omega (arith, wait-lt s.ports.number s.turn s.place i o);
-          same-ports = λ r. refl;
-          same-bound = λ r. refl;
-        } };
+    ghost lawful = { ripples-lawful };
 
     fn ports(&self) -> PortCount {
         self.ports

@@ -4,7 +4,7 @@ ghost use Rattle.machine.specs.Machines.{ended_of, standing, telling};
 ghost use Rattle.machine.specs.Fitting.{Fits};
 ghost use Rattle.machine.specs.Sending.{CanSend, Granted, OpenEnds};
 ghost use Rattle.machine.specs.Standing.{arriving, empty_block, empty_note, ending, finishing, is_open, routing, starting, taking_up};
-ghost use Rattle.switch.specs.Seen.{arrival_of, grant_of, meaning, told, view};
+ghost use Rattle.switch.specs.Seen.{arrival_of, grant_of, told, view};
 ghost use Rattle.std.specs.Prelude.{◌≡◌, replicate, Ok};
 ghost use Rattle.law.specs.Law.{Lawful};
 ghost use Rattle.law.specs.declared.stage.Stage.TheVariants.{Arriving};
@@ -49,8 +49,8 @@ fn empty_bytes() -> [u8; 424]
 impl<A: Arbiter> Machine<A> {
     /// A machine whose switch is made of an arbiter, a mark and the number of its first slot. No slot is open.
     pub fn new(arbiter: A, mark: u32, first: u32) -> Machine<A>
-        ensures start { standing result ≡ starting (meaning A.Arbiter.ports A.Arbiter.bound A.Arbiter.wait A.Arbiter.answer A.Arbiter.after) arbiter mark first }
-        ensures law { Lawful (meaning A.Arbiter.ports A.Arbiter.bound A.Arbiter.wait A.Arbiter.answer A.Arbiter.after) arbiter (view result.switch) }
+        ensures start { standing result ≡ starting A.meaning arbiter mark first }
+        ensures law { Lawful A.meaning arbiter (view result.switch) }
     {
         let ports = arbiter.ports().number();
         Machine {
@@ -110,7 +110,7 @@ impl<A: Arbiter> Machine<A> {
     /// Ends the slot, which is opened first if none is open: it is decided, its grants are sent, the note of each is taken there
     /// and then, and it is closed.
     pub fn end_slot(&mut self) -> Result<EndedSlot, Refusal>
-        ensures answer { telling (told ended_of result) self.new ≡ ending (meaning A.Arbiter.ports A.Arbiter.bound A.Arbiter.wait A.Arbiter.answer A.Arbiter.after) (standing self.old) }
+        ensures answer { telling (told ended_of result) self.new ≡ ending A.meaning (standing self.old) }
         ensures ends { OpenEnds (standing self.old).ticket (told ended_of result) }
     {
         let ticket = self.take_up()?;

@@ -6,7 +6,7 @@ ghost use Rattle.player.specs.Players.{stands_as};
 ghost use Rattle.player.specs.Recording.{maybe_played};
 ghost use Rattle.player.specs.Playing.{Does, beginning, frame_played, last_lines, last_of, line_played, nothing, on_machine, with_ports};
 ghost use Rattle.std.specs.Prelude.{◌≡◌, ◌++◌, IfOk, OnOk};
-ghost use Rattle.switch.specs.Seen.{meaning, told};
+ghost use Rattle.switch.specs.Seen.{told};
 
 use super::Playing;
 use crate::writing::{write_ended, write_refusal};
@@ -23,7 +23,7 @@ fn play_on<A: Arbiter>(
     frame: &Frame,
     out: &mut Vec<u8>,
 ) -> Result<(), AllocError>
-    ensures { OnOk result (Does (on_machine (meaning A.Arbiter.ports A.Arbiter.bound A.Arbiter.wait A.Arbiter.answer A.Arbiter.after) (standing machine.old) number frame.now) (standing machine.new) out.old.items out.new.items) }
+    ensures { OnOk result (Does (on_machine A.meaning (standing machine.old) number frame.now) (standing machine.new) out.old.items out.new.items) }
 {
     let answer = match frame {
         Frame::Start { .. } => Err(Refusal::OutOfPlace),
@@ -50,7 +50,7 @@ fn play_on<A: Arbiter>(
 
 /// Ends the slot of a machine if one is open, and writes what is told of it.
 fn end_open<A: Arbiter>(machine: &mut Machine<A>, out: &mut Vec<u8>) -> Result<(), AllocError>
-    ensures { OnOk result (out.new.items ≡ out.old.items ++ last_of (meaning A.Arbiter.ports A.Arbiter.bound A.Arbiter.wait A.Arbiter.answer A.Arbiter.after) (standing machine.old)) }
+    ensures { OnOk result (out.new.items ≡ out.old.items ++ last_of A.meaning (standing machine.old)) }
 {
     if !machine.slot_is_open() {
         return Ok(());

@@ -2,7 +2,7 @@
 
 ghost use Rattle.law.specs.Law.{Lawful};
 ghost use Rattle.law.specs.Runs.{made};
-ghost use Rattle.switch.specs.Seen.{meaning, view};
+ghost use Rattle.switch.specs.Seen.{view};
 ghost use Rattle.std.specs.Prelude.{◌≡◌};
 
 use super::Switch;
@@ -15,8 +15,8 @@ use routes::Routes;
 impl<A: Arbiter> Switch<A> {
     /// A switch over an arbiter in any state, with a mark and the number of its first slot.
     pub fn new(arbiter: A, mark: u32, first: u32) -> Switch<A>
-        ensures made { view result ≡ made (meaning A.Arbiter.ports A.Arbiter.bound A.Arbiter.wait A.Arbiter.answer A.Arbiter.after) arbiter mark first }
-        ensures law { Lawful (meaning A.Arbiter.ports A.Arbiter.bound A.Arbiter.wait A.Arbiter.answer A.Arbiter.after) arbiter (view result) }
+        ensures made { view result ≡ made A.meaning arbiter mark first }
+        ensures law { Lawful A.meaning arbiter (view result) }
     {
         let ports = arbiter.ports().number();
         Switch {

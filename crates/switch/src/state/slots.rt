@@ -4,7 +4,7 @@ ghost use Rattle.std.specs.Prelude.{◌≡◌, ◌≤◌, not, length, IfOk};
 ghost use Rattle.law.specs.Calls.{requests, wrong};
 ghost use Rattle.law.specs.View.{pairs};
 ghost use Rattle.switch.specs.Ready.{Within};
-ghost use Rattle.switch.specs.Seen.{Closes, Decides, HandsBack, Opens, meaning, view};
+ghost use Rattle.switch.specs.Seen.{Closes, Decides, HandsBack, Opens, view};
 ghost use Rattle.switch.specs.Spent.{IsSpent};
 
 use super::Switch;
@@ -41,7 +41,7 @@ impl<A: Arbiter> Switch<A> {
     /// Decides the slot: a request for each queue that is not empty, and the arbiter's answer is the slot's grants.
     /// Refused, the ticket comes back.
     pub fn decide(&mut self, ticket: ArrivalTicket) -> Result<GrantTicket, Returned<ArrivalTicket>>
-        ensures done { Decides (meaning A.Arbiter.ports A.Arbiter.bound A.Arbiter.wait A.Arbiter.answer A.Arbiter.after) self.old ticket result self.new }
+        ensures done { Decides A.meaning self.old ticket result self.new }
         ensures back { HandsBack ticket result }
         ensures unspent { IfOk result (λ t. IsSpent t → ⊥) }
     {

@@ -1,6 +1,6 @@
 use Rattle.std.proofs.Common.{subst}
-use Rattle.arbiters.specs.contracts.diagonal.calls.DiagonalArbiter.TheImpl.{ghosts}
-use Rattle.switch.specs.Seen.{meaning, view, arrival_of}
+use Rattle.arbiters.specs.Kinds.{diagonals}
+use Rattle.switch.specs.Seen.{view, arrival_of}
 use Rattle.calls.specs.Kept.{Fits}
 use Rattle.calls.proofs.Keeping.{nothing, Held, decides, decide-fits}
 use Rattle.calls.proofs.two_ports.TwoPorts.decide.Goals as goal
@@ -9,9 +9,9 @@ pub invariant_of-self : goal.invariant_of-self
 invariant_of-self c =
     let s = c.args.self.now in
     record {
-      kept = (subst (λ o. Held s.noted o) (c.decide.ensures.done nothing) (decides s.noted (view s.switch) s.kept (meaning ghosts.ports ghosts.bound ghosts.wait ghosts.answer ghosts.after) nothing (arrival_of c.args.ticket))).kept;
+      kept = (subst (λ o. Held s.noted o) (c.decide.ensures.done nothing) (decides s.noted (view s.switch) s.kept diagonals nothing (arrival_of c.args.ticket))).kept;
     }
 
 pub returns : goal.returns
 returns c =
-    subst (λ o. Fits o.view o.reply) (c.decide.ensures.done nothing) (decide-fits (meaning ghosts.ports ghosts.bound ghosts.wait ghosts.answer ghosts.after) (view c.args.self.now.switch) nothing (arrival_of c.args.ticket))
+    subst (λ o. Fits o.view o.reply) (c.decide.ensures.done nothing) (decide-fits diagonals (view c.args.self.now.switch) nothing (arrival_of c.args.ticket))

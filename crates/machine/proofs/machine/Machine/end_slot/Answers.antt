@@ -1,7 +1,7 @@
 use Rattle.std.proofs.Common.{◌≡◌, ◌≤◌, length, None, sym, ap, ◌∙◌, subst, arith}
 use Rattle.queues.specs.Queues.{Queues}
 use Rattle.law.specs.Calls.{Outcome, Ticket, requests}
-use Rattle.switch.specs.Seen.{arrival_of, grant_of, meaning, view}
+use Rattle.switch.specs.Seen.{arrival_of, grant_of, view}
 use Rattle.machine.specs.Machines.{ended_of, memory_of, standing, ticket_of}
 use Rattle.machine.specs.Standing.{Told}
 use Rattle.machine.proofs.Keeping.{nothing, Holds, decides, unfit-none}
@@ -11,7 +11,7 @@ use Rattle.machine.proofs.machine.Machine.end_slot.Goals as goal
 
 pub invariant_of-self : goal.invariant_of-self
 invariant_of-self g c =
-    let a = meaning g.A.Arbiter.ports g.A.Arbiter.bound g.A.Arbiter.wait g.A.Arbiter.answer g.A.Arbiter.after in
+    let a = g.A.Arbiter.meaning in
     let s = c.take_up.new.self in
     let v = view s.switch in
     let u = standing c.args.self.now in
@@ -29,7 +29,7 @@ invariant_of-self g c =
 
 pub finish-requires : goal.finish-requires
 finish-requires g c =
-    let a = meaning g.A.Arbiter.ports g.A.Arbiter.bound g.A.Arbiter.wait g.A.Arbiter.answer g.A.Arbiter.after in
+    let a = g.A.Arbiter.meaning in
     let s = c.take_up.new.self in
     let v = view s.switch in
     let w = view c.decide.new.self in
@@ -39,22 +39,22 @@ finish-requires g c =
     let holds = subst (λ (o : Outcome _ Ticket). Holds v o) (c.decide.ensures.done nothing) (decides v nothing a t) in
     let decision : Decided v.ports w (grant_of c.in-Ok.grants) =
     subst (λ (o : Outcome _ Ticket). Deciding v.ports o.reply o.view) (c.in-Ok.ensures.done nothing)
-    (decided v nothing a t c.in_ok-ticket.ensures.fits (g.met.A.Arbiter.apart s.switch.arbiter (requests v))) in (
+    (decided v nothing a t c.in_ok-ticket.ensures.fits (g.met.A.Arbiter.lawful.apart s.switch.arbiter (requests v))) in (
       record { fits = decision.fits; ports = holds.ports ∙ s.counted; eight = s.few; room = subst (λ (q : Queues). 1 ≤ length q.free) (sym holds.notes) s.room },
       record { held = held; counted = decision.counted; few = omega (arith, decision.few, s.counted, s.few) },
     )
 
 pub unreachable-requires : goal.unreachable-requires
 unreachable-requires g c =
-    let a = meaning g.A.Arbiter.ports g.A.Arbiter.bound g.A.Arbiter.wait g.A.Arbiter.answer g.A.Arbiter.after in
+    let a = g.A.Arbiter.meaning in
     let s = c.take_up.new.self in
     let v = view s.switch in
     subst (λ (o : Outcome _ Ticket). Deciding v.ports o.reply o.view) (c.in-Err.ensures.done nothing)
-    (decided v nothing a (arrival_of c.in_ok-ticket.ticket) c.in_ok-ticket.ensures.fits (g.met.A.Arbiter.apart s.switch.arbiter (requests v)))
+    (decided v nothing a (arrival_of c.in_ok-ticket.ticket) c.in_ok-ticket.ensures.fits (g.met.A.Arbiter.lawful.apart s.switch.arbiter (requests v)))
 
 pub returns : goal.returns
 returns g c =
-    let a = meaning g.A.Arbiter.ports g.A.Arbiter.bound g.A.Arbiter.wait g.A.Arbiter.answer g.A.Arbiter.after in
+    let a = g.A.Arbiter.meaning in
     let s = c.take_up.new.self in
     let u = standing c.args.self.now in
     let held : ticket_of s.ticket ≡ None = ap (λ (x : Told _ Ticket). x.standing.ticket) c.in_ok-ticket.ensures.answer ∙ taken-up u u.ticket in

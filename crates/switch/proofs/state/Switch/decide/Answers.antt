@@ -3,7 +3,6 @@ use Rattle.std.proofs.lemmas.Bool.{not-true}
 use Rattle.pairs.specs.Tables.{inside}
 use Rattle.law.specs.declared.stage.Stage.TheVariants.{Arriving}
 use Rattle.law.specs.Calls.{wrong}
-use Rattle.switch.specs.Seen.{meaning}
 use Rattle.switch.specs.Seen.{view, arrival_of}
 use Rattle.switch.proofs.PortSets.{inside-none}
 use Rattle.switch.proofs.Decisions.{within-granted, ready-granted, decides}
@@ -12,22 +11,22 @@ use Rattle.switch.proofs.state.Switch.decide.Goals as goal
 pub count-self-requires : goal.count-self-requires
 count-self-requires g c =
     let s = c.args.self.now in
-    let a = meaning g.A.Arbiter.ports g.A.Arbiter.bound g.A.Arbiter.wait g.A.Arbiter.answer g.A.Arbiter.after in (
+    let a = g.A.Arbiter.meaning in (
       s.small,
-      within-granted a (view s) s.arbiter c.requests-requests.result c.decide-grants.result (g.met.A.Arbiter.requested s.arbiter c.requests-requests.result) c.requests-requests.ensures c.decide-grants.ensures.answer,
+      within-granted a (view s) s.arbiter c.requests-requests.result c.decide-grants.result (g.met.A.Arbiter.lawful.requested s.arbiter c.requests-requests.result) c.requests-requests.ensures c.decide-grants.ensures.answer,
     )
 
 pub invariant_of-self : goal.invariant_of-self
 invariant_of-self g c =
     let s = c.args.self.now in
-    let a = meaning g.A.Arbiter.ports g.A.Arbiter.bound g.A.Arbiter.wait g.A.Arbiter.answer g.A.Arbiter.after in
-    let law = g.met.A.Arbiter.requested s.arbiter c.requests-requests.result in record { numbered = s.numbered; small = s.small; sized = s.sized; within = within-granted a (view s) s.arbiter c.requests-requests.result c.decide-grants.result law c.requests-requests.ensures c.decide-grants.ensures.answer; ready = ready-granted a (view s) s.arbiter c.requests-requests.result c.decide-grants.result law c.requests-requests.ensures c.decide-grants.ensures.answer s.cells refl }
+    let a = g.A.Arbiter.meaning in
+    let law = g.met.A.Arbiter.lawful.requested s.arbiter c.requests-requests.result in record { numbered = s.numbered; small = s.small; sized = s.sized; within = within-granted a (view s) s.arbiter c.requests-requests.result c.decide-grants.result law c.requests-requests.ensures c.decide-grants.ensures.answer; ready = ready-granted a (view s) s.arbiter c.requests-requests.result c.decide-grants.result law c.requests-requests.ensures c.decide-grants.ensures.answer s.cells refl }
 
 pub returns : goal.returns
 returns g c =
     let s = c.args.self.now in
     let v = view s in
-    let a = meaning g.A.Arbiter.ports g.A.Arbiter.bound g.A.Arbiter.wait g.A.Arbiter.answer g.A.Arbiter.after in
+    let a = g.A.Arbiter.meaning in
     let t = arrival_of c.args.ticket in
     record {
       done = λ m. decides a v m t c.requests-requests.result c.decide-grants.result c.decide-grants.new.self c.count-self.result (inside c.empty-self.result)

@@ -1,31 +1,22 @@
 use Rattle.std.proofs.Common.{[], ◌∷◌, sym, refl, ◌∙◌, subst, arith, rules}
-use Rattle.arbiters.specs.Meaning.{Lawful as Rules}
 use Rattle.routes.specs.Map.{tables_of}
 use Rattle.law.specs.Law.{Lawful}
 use Rattle.law.specs.View.{View}
 use Rattle.law.proofs.Whole.{lawful}
-use Rattle.switch.specs.Seen.{meaning}
 use Rattle.switch.proofs.Starts.{starts, within_none, ready-none}
 use Rattle.switch.proofs.state.Switch.new.Goals as goal
 
 pub returns : goal.returns
 returns g c =
-    let a = meaning g.A.Arbiter.ports g.A.Arbiter.bound g.A.Arbiter.wait g.A.Arbiter.answer g.A.Arbiter.after in
-    let rules : Rules a = record {
-      requested = g.met.A.Arbiter.requested;
-      apart = g.met.A.Arbiter.apart;
-      maximal = g.met.A.Arbiter.maximal;
-      nearer = g.met.A.Arbiter.nearer;
-      within = g.met.A.Arbiter.within;
-    } in
+    let a = g.A.Arbiter.meaning in
     let is = starts a c.args.arbiter c.args.mark c.args.first c.number-ports.result c.empty.result c.empty-3.result c.empty-2.result (tables_of c.new.result) c.new-2.result c.new-3.result
     (c.number-ports.ensures ∙ c.ports.ensures) c.empty.ensures c.empty-3.ensures c.empty-2.ensures c.new.ensures c.new-2.ensures c.new-3.ensures in
-    record { made = is; law = subst (λ (v : View g.row.A.Denot). Lawful a c.args.arbiter v) (sym is) (lawful a rules c.args.arbiter c.args.mark c.args.first) }
+    record { made = is; law = subst (λ (v : View g.row.A.Denot). Lawful a c.args.arbiter v) (sym is) (lawful a g.met.A.Arbiter.lawful c.args.arbiter c.args.mark c.args.first) }
 
 pub invariant_of-result : goal.invariant_of-result
 invariant_of-result g c =
     let l = c.new-2.result in
-    let most = (g.met.A.Arbiter.within c.args.arbiter).eight in
+    let most = (g.met.A.Arbiter.lawful.within c.args.arbiter).eight in
     record {
       numbered = search rules;
       small = omega (arith, c.number-ports.ensures, c.ports.ensures, most);
