@@ -1,9 +1,8 @@
 -- A cell that arrives, by the facts of the code.
-use Rattle.std.proofs.Common.{◌≡◌, ℕ, ◌*◌, ◌<◌, ◌≤◌, Bool, true, false, cond, not, eqb, List, [], ◌∷◌, ◌++◌, length, set, Ok, Err, Result, sym, refl, ap, ◌∙◌, ap₂, arith}
+use Rattle.std.proofs.Common.{◌≡◌, ℕ, ◌*◌, ◌<◌, ◌≤◌, Bool, true, false, cond, not, List, [], ◌∷◌, ◌++◌, length, set, Ok, Err, Result, sym, refl, ap, ◌∙◌, ap₂, arith}
 use Rattle.std.proofs.lemmas.List.{length-append}
-use Rattle.std.proofs.lemmas.Bool.{lt-ltb, eq-eqb, eqb-true}
+use Rattle.std.proofs.lemmas.Bool.{lt-ltb, eq-eqb}
 use Rattle.cells.specs.Header.{vci_of, is_idle}
-use Rattle.cells.specs.Reading.{of_cell}
 use Rattle.queues.specs.Queues.{Queues, put, joined}
 use Rattle.refusals.specs.declared.refusal.Refusal.{Refusal}
 use Rattle.refusals.specs.declared.refusal.Refusal.TheVariants.{PortBeyond, CellLength, CellMemoryLength, WrongTicket, TurnUsed, InputFull}
@@ -31,6 +30,9 @@ module _ {A : Type 0} (v : View A) (m : Memory) (t : Ticket) (p : ℕ) (c : List
   idles used e f =
       enters ∙ ap (λ (b : Bool). cond b (done Idle (with_slot v (turn_used v.slot p)) m) (routed v m p c (v.tables.route p (vci_of c)))) e
       ∙ ap (λ (u : ℕ → Bool). done Idle (with_slot v (record { next = v.slot.next; stage = v.slot.stage; used = u; grants = v.slot.grants; granted = v.slot.granted; sent = v.slot.sent })) m) (sym f)
+
+  pub looks_for_route : is_idle c ≡ false → arrive_call v m t p c ≡ routed v m p c (v.tables.route p (vci_of c))
+  looks_for_route e = enters ∙ ap (λ (b : Bool). cond b (done Idle (with_slot v (turn_used v.slot p)) m) (routed v m p c (v.tables.route p (vci_of c)))) e
 
 -- the route is r, and storing left the queues q and the blocks ys
 module _ {A : Type 0} (v : View A) (m : Memory) (p : ℕ) (c : List ℕ) (r : Route) (q : ℕ → Queues) (ys : List Block) where
@@ -88,11 +90,3 @@ longer s t xs ys i q x r e j u = go (s i).free refl e
         grows : (f : Bool) → length ((t j).queue u) ≡ length (cond f ((s i).queue q ++ (b ∷ [])) ((s j).queue u)) → (f ≡ true → (j ≡ i) × (u ≡ q)) → length ((s j).queue u) ≤ length ((t j).queue u)
         grows true is w = let e = w refl in omega (arith, is, length-append ((s i).queue q) (b ∷ []), ap₂ (λ (y z : ℕ). length ((s y).queue z)) e.0 e.1)
         grows false is w = omega (arith, is)
-
--- a slice that is found idle or not is a cell
-pub is-cell : (c : List ℕ) (b : Bool) → Ok b ≡ of_cell c (is_idle c) → (length c ≡ 53) × (b ≡ is_idle c)
-is-cell c b e = go (eqb (length c) 53) refl e
-  where
-    go : (f : Bool) → eqb (length c) 53 ≡ f → Ok b ≡ cond {A = Result Bool Refusal} f (Ok (is_idle c)) (Err CellLength) → (length c ≡ 53) × (b ≡ is_idle c)
-    go true f e = (eqb-true (length c) 53 f, cc)
-    go false f e = let z : ◌≡◌ {A = ℕ} 0 1 = cc in absurd (omega arith)

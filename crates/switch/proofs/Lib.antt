@@ -2,6 +2,7 @@ mod PortSets
 mod Firsts
 mod Requests
 mod Decisions
+mod Errors
 mod Heads
 mod Notes
 mod Middle

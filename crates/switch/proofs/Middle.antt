@@ -10,11 +10,11 @@ use Rattle.queues.specs.declared.links.Links.{Links}
 use Rattle.queues.specs.Calls.{Outcome, outcome, unless, join_by, join_call, take_call}
 use Rattle.queues.specs.Queues.{Queues, put, joined, taken}
 use Rattle.queues.specs.Queues as Queued
-use Rattle.refusals.specs.declared.refusal.Refusal.{Refusal}
 use Rattle.refusals.specs.declared.refusal.Refusal.TheVariants.{InputFull}
 use Rattle.law.specs.declared.memory.Block.{Block}
 use Rattle.switch.specs.Seen.{Stored, storing, Stores, block_at}
 use Rattle.switch.specs.Ready.{cells_of}
+use Rattle.switch.proofs.Errors.{refused_with}
 use Rattle.switch.proofs.Heads.{fits-ok, head-inside, view-at, takes-head}
 use Rattle.switch.proofs.Inputs.{cells_at, cells-put}
 
@@ -40,20 +40,16 @@ put_same f p = fun_ext (λ i. elim (cases_eq i p) [
   | inr e ↦ ap (λ (b : Bool). cond b (f p) (f i)) (ne_eqb i p e)
 ])
 
-abbrev pub refusal_of : Result ℕ QueueRefusal → Result ℕ Refusal
-refusal_of (Ok n) = Ok n
-refusal_of (Err k) = Err InputFull
-
 -- what joining does to the part, it does to the whole; the queues of input i are s, and cs those of all
 pub join-mid : (s : Queues) (xs : List Block) (i q : ℕ) (x : Block) (k : ℕ) (free : List ℕ) → k ≡ 16 → ((b : ℕ) (rest : List ℕ) → free ≡ b ∷ rest → b < 16) → i * 16 + 16 ≤ length xs
     → (cs ds : ℕ → Queues) → cs i ≡ s → (o : Outcome ℕ Block) → o ≡ join_by s (take k (drop (i * 16) xs)) q x free → ds ≡ put cs i o.queues
-    → ◌≡◌ {A = Stored} (record { answer = refusal_of o.answer; queues = ds; blocks = put_mid (i * 16) k xs o.blocks }) (storing cs xs i q x free)
+    → ◌≡◌ {A = Stored} (record { answer = refused_with InputFull o.answer; queues = ds; blocks = put_mid (i * 16) k xs o.blocks }) (storing cs xs i q x free)
 join-mid s xs i q x k [] sixteen few room cs ds is o e f =
-    ap₂ (λ (o : Outcome ℕ Block) (d : ℕ → Queues). record { answer = refusal_of o.answer; queues = d; blocks = put_mid (i * 16) k xs o.blocks }) e
+    ap₂ (λ (o : Outcome ℕ Block) (d : ℕ → Queues). record { answer = refused_with InputFull o.answer; queues = d; blocks = put_mid (i * 16) k xs o.blocks }) e
     (f ∙ ap (λ (o : Outcome ℕ Block). put cs i o.queues) e ∙ ap (put cs i) (sym is) ∙ put_same cs i)
     ∙ ap (λ (l : List Block). record { answer = Err InputFull; queues = cs; blocks = l }) (whole xs (i * 16) k (omega arith))
 join-mid s xs i q x k (b ∷ rest) sixteen few room cs ds is o e f =
-    ap₂ (λ (o : Outcome ℕ Block) (d : ℕ → Queues). record { answer = refusal_of o.answer; queues = d; blocks = put_mid (i * 16) k xs o.blocks }) e
+    ap₂ (λ (o : Outcome ℕ Block) (d : ℕ → Queues). record { answer = refused_with InputFull o.answer; queues = d; blocks = put_mid (i * 16) k xs o.blocks }) e
     (f ∙ ap (λ (o : Outcome ℕ Block). put cs i o.queues) e ∙ ap (λ (z : Queues). put cs i (joined z q)) (sym is))
     ∙ ap₂ (λ (n : ℕ) (l : List Block). record { answer = Ok n; queues = put cs i (joined (cs i) q); blocks = l }) (ap (λ (z : Queues). length (z.queue q)) (sym is))
     (set-mid xs (i * 16) k (omega arith) b x (let l = few b rest refl in omega arith))
@@ -61,7 +57,7 @@ join-mid s xs i q x k (b ∷ rest) sixteen few room cs ds is o e f =
 -- storing, by what joining the queue of one of the links answered
 pub store_is : (ls : List (Links 16)) (i : ℕ) (d new : Links 16) (xs ys : List Block) (q : ℕ) (x : Block) (r : Result ℕ QueueRefusal) → i < length ls → q < 8 → i * 16 + 16 ≤ length xs
     → outcome r (Queued.view new) ys ≡ join_call 16 (Queued.view (get_or ls i d)) (between (i * 16) (i * 16 + 16) xs) q x
-    → Stores (cells_of ls) xs i q x (refusal_of r) (cells_of (set ls i new)) (put_mid (i * 16) ((i * 16 + 16) - i * 16) xs ys)
+    → Stores (cells_of ls) xs i q x (refused_with InputFull r) (cells_of (set ls i new)) (put_mid (i * 16) ((i * 16 + 16) - i * 16) xs ys)
 store_is ls i d new xs ys q x r li lq room e =
     let s = Queued.view (get_or ls i d) in
     let k : ℕ = (i * 16 + 16) - i * 16 in

@@ -13,11 +13,8 @@ use Rattle.law.specs.View.{Memory, View}
 use Rattle.law.specs.Calls as Calls
 use Rattle.law.specs.Calls.{beyond, notes_amiss, oldest, with_notes, take_note_call}
 use Rattle.law.proofs.Refusing.{passes}
+use Rattle.switch.proofs.Errors.{refused_with}
 use Rattle.switch.proofs.Heads.{takes-head, takes_none}
-
-abbrev pub note_of : Result Note QueueRefusal → Result Note Refusal
-note_of (Ok x) = Ok x
-note_of (Err e) = Err NoNote
 
 module _ {A : Type 0} (v : View A) (m : Memory) (o : ℕ) (l : Links 64) (is : v.notes ≡ Queued.view l) (lo : o < v.ports) (small : v.ports ≤ 8) (size : length m.notes ≡ 64)
     (r : Result Note QueueRefusal) (q : Queues) (e : outcome r q m.notes ≡ take_call 64 (Queued.view l) m.notes o) where
@@ -27,15 +24,15 @@ module _ {A : Type 0} (v : View A) (m : Memory) (o : ℕ) (l : Links 64) (is : v
   abbrev out : Result Note Refusal → Queues → Calls.Outcome A Note
   out r q = record { reply = r; view = with_notes v q; memory = m }
 
-  by-queue : (queue : List ℕ) → v.notes.queue o ≡ queue → oldest v m o queue ≡ out (note_of r) q
+  by-queue : (queue : List ℕ) → v.notes.queue o ≡ queue → oldest v m o queue ≡ out (refused_with NoNote r) q
   by-queue [] f =
       let t = e ∙ takes_none l m.notes o below size (ap (λ (q : Queues). q.queue o) (sym is) ∙ f) in
-      ap (out (Err NoNote)) is ∙ sym (ap (λ (x : Outcome Note Note). out (note_of x.answer) x.queues) t)
+      ap (out (Err NoNote)) is ∙ sym (ap (λ (x : Outcome Note Note). out (refused_with NoNote x.answer) x.queues) t)
   by-queue (n ∷ rest) f =
       let t = e ∙ takes-head l m.notes o below size n rest (record { slot = 0; input = 0; came = 0; left = 0 }) (ap (λ (q : Queues). q.queue o) (sym is) ∙ f) in
-      ap (λ (q : Queues). out (Ok (get_or m.notes n (record { slot = 0; input = 0; came = 0; left = 0 }))) (Queued.taken q o)) is ∙ sym (ap (λ (x : Outcome Note Note). out (note_of x.answer) x.queues) t)
+      ap (λ (q : Queues). out (Ok (get_or m.notes n (record { slot = 0; input = 0; came = 0; left = 0 }))) (Queued.taken q o)) is ∙ sym (ap (λ (x : Outcome Note Note). out (refused_with NoNote x.answer) x.queues) t)
 
-  pub takes-note : take_note_call v m o ≡ out (note_of r) q
+  pub takes-note : take_note_call v m o ≡ out (refused_with NoNote r) q
   takes-note =
       passes ((PortBeyond, beyond v o) ∷ (NoteMemoryLength, notes_amiss m) ∷ []) v m (oldest v m o (v.notes.queue o)) (ap not (lt-ltb o v.ports lo), (ap not (eq-eqb (length m.notes) 64 size), tt))
       ∙ by-queue (v.notes.queue o) refl

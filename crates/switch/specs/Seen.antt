@@ -22,24 +22,28 @@ use Rattle.switch.specs.declared.state.Switch.{Switch}
 use Rattle.switch.specs.declared.tickets.ArrivalTicket.{ArrivalTicket}
 use Rattle.switch.specs.declared.tickets.GrantTicket.{GrantTicket}
 use Rattle.switch.specs.declared.tickets.Returned.{Returned}
+use Rattle.switch.specs.declared.tickets.Stamp.{Stamp}
 use Rattle.switch.specs.Ready.{cells_of}
 
 abbrev pub view : {A : Type 0} {G : Ghosts A} → Switch A G → View A
 view s = record {
-  ports = s.ports;
+  ports = s.ports.number;
   mark = s.mark;
   arbiter = s.arbiter;
-  slot = record { next = s.next; stage = s.stage; used = inside s.used; grants = pairs s.ports s.grants; granted = s.granted; sent = inside s.sent };
+  slot = record { next = s.next; stage = s.stage; used = inside s.used; grants = pairs s.ports.number s.grants; granted = s.granted; sent = inside s.sent };
   tables = tables_of s.routes;
   cells = cells_of s.cells;
   notes = Queued.view s.notes;
 }
 
+abbrev pub stamped : Stamp → Ticket
+stamped s = record { mark = s.mark; slot = s.slot }
+
 abbrev pub arrival_of : ArrivalTicket → Ticket
-arrival_of t = record { mark = t.mark; slot = t.slot }
+arrival_of t = stamped t.stamp
 
 abbrev pub grant_of : GrantTicket → Ticket
-grant_of t = record { mark = t.mark; slot = t.slot }
+grant_of t = stamped t.stamp
 
 -- an answer by its ticket's numbers, and a refusal that hands a ticket back
 abbrev pub told : {X Y : Type 0} → (X → Y) → Result X Refusal → Result Y Refusal

@@ -4,6 +4,7 @@ ghost use Rattle.std.specs.Prelude.{◌≡◌, ◌≤◌, length};
 ghost use Rattle.switch.specs.Ready.{Ready, Within};
 
 use arbiters::Arbiter;
+use grants::PortCount;
 use law::Stage;
 use pairs::{Ports, Table};
 use queues::Links;
@@ -27,7 +28,7 @@ const NOTE_BLOCKS: usize = 64;
 #[derive(Drop)]
 pub struct Switch<A: Arbiter> {
     arbiter: A,
-    ports: u8,
+    ports: PortCount,
     mark: u32,
     /// The number of the next slot to be opened.
     next: u64,
@@ -44,8 +45,7 @@ pub struct Switch<A: Arbiter> {
     cells: [Links<16>; 8],
     notes: Links<64>,
     ghost numbered: { next ≤ 4294967296 },
-    ghost small: { ports ≤ 8 },
     ghost sized: { length cells ≡ 8 },
-    ghost within: { Within ports grants },
+    ghost within: { Within ports.number grants },
     ghost ready: { Ready grants cells },
 }

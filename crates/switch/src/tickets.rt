@@ -4,18 +4,23 @@ ghost use Rattle.switch.specs.Spent.{IsSpent};
 
 use refusals::Refusal;
 
+/// What a ticket bears: the mark of its switch and the number of its slot.
+#[derive(Clone, Copy, PartialEq, Eq, Debug)]
+pub(crate) struct Stamp {
+    pub(crate) mark: u32,
+    pub(crate) slot: u32,
+}
+
 /// Lets cells arrive in a slot. It goes into `decide`; one that is let go leaves its slot open.
 #[derive(Drop)]
 pub struct ArrivalTicket {
-    pub(crate) mark: u32,
-    pub(crate) slot: u32,
+    pub(crate) stamp: Stamp,
 }
 
 /// Lets the grants of a slot be sent. Only `close` spends it, and none that is handed out is spent: a program that lets one go is
 /// not proved.
 pub struct GrantTicket {
-    pub(crate) mark: u32,
-    pub(crate) slot: u32,
+    pub(crate) stamp: Stamp,
     pub(crate) spent: bool,
 }
 
@@ -23,11 +28,7 @@ impl Drop for GrantTicket {
     fn drop(self)
         requires { IsSpent self }
     {
-        let GrantTicket {
-            mark: _,
-            slot: _,
-            spent: _,
-        } = self;
+        let GrantTicket { stamp: _, spent: _ } = self;
     }
 }
 

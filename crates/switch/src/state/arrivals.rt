@@ -7,7 +7,7 @@ ghost use Rattle.switch.specs.Seen.{Accepts, Arrives, Stores};
 use super::{BLOCKS, Switch};
 use crate::tickets::ArrivalTicket;
 use arbiters::Arbiter;
-use cells::{CELL_BYTES, Cell, is_idle, vci};
+use cells::{Cell, is_idle_cell, vci};
 use law::{Arrival, Block, Stage};
 use queues::Links;
 use refusals::Refusal;
@@ -24,20 +24,23 @@ impl<A: Arbiter> Switch<A> {
     ) -> Result<Arrival, Refusal>
         ensures { Arrives self.old ticket.now input cell.now blocks.old result self.new blocks.new }
     {
-        if input >= self.ports {
+        let ports = self.ports.number();
+        if input >= ports {
             return Err(Refusal::PortBeyond);
         }
-        let idle = is_idle(cell)?;
-        if blocks.len() != self.ports as usize * BLOCKS {
+        let Ok(cell) = <&Cell>::try_from(cell) else {
+            return Err(Refusal::CellLength);
+        };
+        if blocks.len() != ports as usize * BLOCKS {
             return Err(Refusal::CellMemoryLength);
         }
-        if !self.fits(ticket.mark, ticket.slot, Stage::Arriving) {
+        if !self.fits(ticket.stamp, Stage::Arriving) {
             return Err(Refusal::WrongTicket);
         }
         if self.used.has(input as usize) {
             return Err(Refusal::TurnUsed);
         }
-        if idle {
+        if is_idle_cell(cell) {
             self.used = self.used.with(input as usize);
             return Ok(Arrival::Idle);
         }
@@ -45,12 +48,12 @@ impl<A: Arbiter> Switch<A> {
     }
 
     /// Looks for the route of a cell that is not idle, and stores the cell in the queue that the route names.
-    fn accept(&mut self, input: u8, cell: &[u8], blocks: &mut [Block]) -> Result<Arrival, Refusal>
-        requires { (input < self.old.ports) × ((length cell.now ≡ 53) × (length blocks.old ≡ self.old.ports * 16)) }
+    fn accept(&mut self, input: u8, cell: &Cell, blocks: &mut [Block]) -> Result<Arrival, Refusal>
+        requires port { input < self.old.ports.number }
+        requires blocks { length blocks.old ≡ self.old.ports.number * 16 }
         ensures { Accepts self.old input cell.now blocks.old result self.new blocks.new }
     {
-        let cell = whole(cell);
-        let Some(route) = self.routes.find(input, vci(&cell)) else {
+        let Some(route) = self.routes.find(input, vci(cell)) else {
             return Err(Refusal::NoRoute);
         };
         let place = input as usize;
@@ -60,7 +63,7 @@ impl<A: Arbiter> Switch<A> {
             place,
             route.output as usize,
             Block {
-                cell,
+                cell: *cell,
                 new_vci: route.new_vci,
             },
         )?;
@@ -72,16 +75,6 @@ impl<A: Arbiter> Switch<A> {
     }
 }
 
-/// The cell that 53 bytes are.
-fn whole(bytes: &[u8]) -> Cell
-    requires { length bytes.now ≡ 53 }
-    ensures { result ≡ bytes.now }
-{
-    let mut cell = [0; CELL_BYTES];
-    cell.copy_from_slice(bytes);
-    cell
-}
-
 /// Stores a block in the first free block of an input, at the tail of the queue, and says how many stand ahead there.
 /// The input's part of cell memory goes to the queue.
 fn store(
@@ -91,12 +84,13 @@ fn store(
     queue: usize,
     block: Block,
 ) -> Result<usize, Refusal>
-    requires { (queue < 8) × ((input * 16 + 16 ≤ length blocks.old) × (input < length links.old)) }
+    requires queue { queue < 8 }
+    requires links { input < length links.old }
+    requires blocks { input * 16 + 16 ≤ length blocks.old }
     ensures { Stores (cells_of links.old) blocks.old input queue block result (cells_of links.new) blocks.new }
 {
     let start = input * BLOCKS;
-    match links[input].join(&mut blocks[start..start + BLOCKS], queue, block) {
-        Ok(ahead) => Ok(ahead),
-        Err(_) => Err(Refusal::InputFull),
-    }
+    links[input]
+        .join(&mut blocks[start..start + BLOCKS], queue, block)
+        .map_err(|_| Refusal::InputFull)
 }

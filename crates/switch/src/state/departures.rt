@@ -26,7 +26,7 @@ impl<A: Arbiter> Switch<A> {
     ) -> Result<Departed, Refusal>
         ensures { Departs self.old ticket.now blocks.now notes.old bytes.old result self.new notes.new bytes.new }
     {
-        let ports = self.ports as usize;
+        let ports = self.ports.number() as usize;
         if blocks.len() != ports * BLOCKS {
             return Err(Refusal::CellMemoryLength);
         }
@@ -36,7 +36,7 @@ impl<A: Arbiter> Switch<A> {
         if bytes.len() != ports * CELL_BYTES {
             return Err(Refusal::SlotBytesLength);
         }
-        if !self.fits(ticket.mark, ticket.slot, Stage::Sending) {
+        if !self.fits(ticket.stamp, Stage::Sending) {
             return Err(Refusal::WrongTicket);
         }
         let Some((input, output)) = self.grants.first() else {
@@ -47,7 +47,7 @@ impl<A: Arbiter> Switch<A> {
         }
         let block = fetch(&mut self.cells, blocks, input, output);
         let note = Note {
-            slot: ticket.slot,
+            slot: ticket.stamp.slot,
             input: input as u8,
             came: vci(&block.cell),
             left: block.new_vci,
@@ -66,13 +66,16 @@ impl<A: Arbiter> Switch<A> {
 
 /// Takes the cell at the head of a queue of an input that holds one. The input's part of cell memory goes to the queue.
 fn fetch(links: &mut [Links<16>], blocks: &[Block], input: usize, queue: usize) -> Block
-    requires { (input < length links.old) × ((queue < 8) × ((input * 16 + 16 ≤ length blocks.now) × (1 ≤ length ((cells_of links.old input).queue queue)))) }
+    requires queue { queue < 8 }
+    requires links { input < length links.old }
+    requires blocks { input * 16 + 16 ≤ length blocks.now }
+    requires waits { 1 ≤ length ((cells_of links.old input).queue queue) }
     ensures block { result ≡ block_at blocks.now input (slice_index ((cells_of links.old input).queue queue) 0) }
     ensures queues { cells_of links.new ≡ put (cells_of links.old) input (taken (cells_of links.old input) queue) }
 {
     let start = input * BLOCKS;
-    match links[input].take(&blocks[start..start + BLOCKS], queue) {
-        Ok(block) => block,
-        Err(_) => unreachable(),
-    }
+    let Ok(block) = links[input].take(&blocks[start..start + BLOCKS], queue) else {
+        unreachable()
+    };
+    block
 }

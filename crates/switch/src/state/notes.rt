@@ -12,15 +12,14 @@ impl<A: Arbiter> Switch<A> {
     pub fn take_note(&mut self, output: u8, notes: &[Note]) -> Result<Note, Refusal>
         ensures { TakesNote self.old output notes.now result self.new }
     {
-        if output >= self.ports {
+        if output >= self.ports.number() {
             return Err(Refusal::PortBeyond);
         }
         if notes.len() != NOTE_BLOCKS {
             return Err(Refusal::NoteMemoryLength);
         }
-        match self.notes.take(notes, output as usize) {
-            Ok(note) => Ok(note),
-            Err(_) => Err(Refusal::NoNote),
-        }
+        self.notes
+            .take(notes, output as usize)
+            .map_err(|_| Refusal::NoNote)
     }
 }

@@ -24,7 +24,7 @@ impl<A: Arbiter> Switch<A> {
             output,
             new_vci,
         };
-        match self.routes.set(self.ports, input, route) {
+        match self.routes.set(self.ports.number(), input, route) {
             Ok(routes) => {
                 self.routes = routes;
                 Ok(())
@@ -37,7 +37,7 @@ impl<A: Arbiter> Switch<A> {
     pub fn remove_route(&mut self, input: u8, vci: u16) -> Result<(), Refusal>
         ensures { RemovesRoute self.old input vci result self.new }
     {
-        match self.routes.remove(self.ports, input, vci) {
+        match self.routes.remove(self.ports.number(), input, vci) {
             Ok(routes) => {
                 self.routes = routes;
                 Ok(())

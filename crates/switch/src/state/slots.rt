@@ -1,15 +1,16 @@
 //! A slot from its opening to its close.
 
-ghost use Rattle.std.specs.Prelude.{◌≡◌, ◌≤◌, not, length, IfOk};
+ghost use Rattle.std.specs.Prelude.{◌≡◌, not, length, IfOk};
 ghost use Rattle.law.specs.Calls.{requests, wrong};
 ghost use Rattle.law.specs.View.{pairs};
 ghost use Rattle.switch.specs.Ready.{Within};
-ghost use Rattle.switch.specs.Seen.{Closes, Decides, HandsBack, Opens, view};
+ghost use Rattle.switch.specs.Seen.{Closes, Decides, HandsBack, Opens, stamped, view};
 ghost use Rattle.switch.specs.Spent.{IsSpent};
 
 use super::Switch;
-use crate::tickets::{ArrivalTicket, GrantTicket, Returned};
+use crate::tickets::{ArrivalTicket, GrantTicket, Returned, Stamp};
 use arbiters::Arbiter;
+use grants::PortCount;
 use law::{SlotClosed, Stage};
 use pairs::{Ports, Table};
 use refusals::Refusal;
@@ -22,15 +23,17 @@ impl<A: Arbiter> Switch<A> {
     pub fn open(&mut self) -> Result<ArrivalTicket, Refusal>
         ensures { Opens self.old result self.new }
     {
-        if !matches!(self.stage, Stage::Closed) {
+        if self.stage != Stage::Closed {
             return Err(Refusal::SlotOpen);
         }
         if self.next > LAST_SLOT {
             return Err(Refusal::NoSlotNumber);
         }
         let ticket = ArrivalTicket {
-            mark: self.mark,
-            slot: self.next as u32,
+            stamp: Stamp {
+                mark: self.mark,
+                slot: self.next as u32,
+            },
         };
         self.next += 1;
         self.stage = Stage::Arriving;
@@ -45,13 +48,13 @@ impl<A: Arbiter> Switch<A> {
         ensures back { HandsBack ticket result }
         ensures unspent { IfOk result (λ t. IsSpent t → ⊥) }
     {
-        if !self.fits(ticket.mark, ticket.slot, Stage::Arriving) {
+        if !self.fits(ticket.stamp, Stage::Arriving) {
             return Err(Returned {
                 refusal: Refusal::WrongTicket,
                 ticket,
             });
         }
-        let ArrivalTicket { mark, slot } = ticket;
+        let ArrivalTicket { stamp } = ticket;
         let requests = self.requests();
         let grants = self.arbiter.decide(requests);
         self.granted = count(grants, self.ports);
@@ -59,8 +62,7 @@ impl<A: Arbiter> Switch<A> {
         self.sent = Ports::empty();
         self.stage = Stage::Sending;
         Ok(GrantTicket {
-            mark,
-            slot,
+            stamp,
             spent: false,
         })
     }
@@ -70,7 +72,7 @@ impl<A: Arbiter> Switch<A> {
         ensures done { Closes self.old ticket result self.new }
         ensures back { HandsBack ticket result }
     {
-        if !self.fits(ticket.mark, ticket.slot, Stage::Sending) {
+        if !self.fits(ticket.stamp, Stage::Sending) {
             return Err(Returned {
                 refusal: Refusal::WrongTicket,
                 ticket,
@@ -82,7 +84,7 @@ impl<A: Arbiter> Switch<A> {
                 ticket,
             });
         }
-        let slot = ticket.slot;
+        let slot = ticket.stamp.slot;
         ticket.spend();
         self.stage = Stage::Closed;
         Ok(SlotClosed {
@@ -96,8 +98,9 @@ impl<A: Arbiter> Switch<A> {
         ensures { result ≡ requests (view self.now) }
     {
         let mut table = Table::empty();
-        for i in 0..self.ports as usize {
-            for o in 0..self.ports as usize {
+        let ports = self.ports.number() as usize;
+        for i in 0..ports {
+            for o in 0..ports {
                 if self.cells[i].head_block(o).is_ok() {
                     table = table.with(i, o);
                 }
@@ -106,18 +109,18 @@ impl<A: Arbiter> Switch<A> {
         table
     }
 
-    /// Whether a ticket of this mark and slot fits the stage that the open slot is in.
-    pub(super) fn fits(&self, mark: u32, slot: u32, stage: Stage) -> bool
-        ensures { result ≡ not (wrong (view self.now) stage (record { mark = mark; slot = slot })) }
+    /// Whether a ticket of this stamp fits the stage that the open slot is in.
+    pub(super) fn fits(&self, stamp: Stamp, stage: Stage) -> bool
+        ensures { result ≡ not (wrong (view self.now) stage (stamped stamp)) }
     {
-        mark == self.mark && slot as u64 + 1 == self.next && self.stage as u8 == stage as u8
+        stamp.mark == self.mark && stamp.slot as u64 + 1 == self.next && self.stage == stage
     }
 }
 
 /// How many pairs a table has, all of them of so many ports.
-fn count(table: Table, ports: u8) -> u8
-    requires { (ports ≤ 8) × (Within ports table) }
-    ensures { result ≡ length (pairs ports table) }
+fn count(table: Table, ports: PortCount) -> u8
+    requires { Within ports.number table }
+    ensures { result ≡ length (pairs ports.number table) }
 {
     let mut number = 0;
     let mut rest = table;

@@ -21,10 +21,11 @@ impl<A: Arbiter> Switch<A> {
     ) -> Result<(), Refusal>
         ensures { Looks self.now input output blocks.old bytes.old result blocks.new bytes.new }
     {
-        if input >= self.ports || output >= self.ports {
+        let ports = self.ports.number();
+        if input >= ports || output >= ports {
             return Err(Refusal::PortBeyond);
         }
-        if blocks.len() != self.ports as usize * BLOCKS {
+        if blocks.len() != ports as usize * BLOCKS {
             return Err(Refusal::CellMemoryLength);
         }
         match self.cells[input as usize].head_block(output as usize) {
@@ -41,10 +42,11 @@ impl<A: Arbiter> Switch<A> {
     pub fn line<'a>(&self, output: u8, bytes: &'a [u8], idle: &'a [u8]) -> Result<&'a [u8], Refusal>
         ensures { Lines self.now output bytes.now idle.now result }
     {
-        if output >= self.ports {
+        let ports = self.ports.number();
+        if output >= ports {
             return Err(Refusal::PortBeyond);
         }
-        if bytes.len() != self.ports as usize * CELL_BYTES {
+        if bytes.len() != ports as usize * CELL_BYTES {
             return Err(Refusal::SlotBytesLength);
         }
         line_of(bytes, output as usize, self.sent.has(output as usize), idle)

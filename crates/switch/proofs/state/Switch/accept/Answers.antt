@@ -1,11 +1,11 @@
-use Rattle.std.proofs.Common.{◌≡◌, ℕ, ◌<◌, List, Some, Option, sym, ap, ◌∙◌, arith}
+use Rattle.std.proofs.Common.{◌≡◌, ℕ, ◌<◌, Some, Option, sym, ap, ◌∙◌, arith}
 use Rattle.cells.specs.Header.{vci_of}
 use Rattle.pairs.specs.Tables.{inside}
 use Rattle.routes.specs.declared.route.Route.{Route}
 use Rattle.law.specs.View.{Memory}
 use Rattle.law.specs.Calls.{routed}
 use Rattle.switch.specs.Ready.{cells_of}
-use Rattle.switch.specs.Seen.{view, storing}
+use Rattle.switch.specs.Seen.{view}
 use Rattle.switch.proofs.PortSets.{inside-with}
 use Rattle.switch.proofs.Arrivals.{stores, longer}
 use Rattle.switch.proofs.state.Switch.accept.Goals as goal
@@ -14,7 +14,6 @@ pub invariant_of-self : goal.invariant_of-self
 invariant_of-self g c =
     let s = c.args.self.now in record {
       numbered = s.numbered;
-      small = s.small;
       sized = c.store.auto.links ∙ s.sized;
       within = s.within;
       ready = (λ x h.
@@ -27,7 +26,6 @@ pub invariant_of-self-2 : goal.invariant_of-self-2
 invariant_of-self-2 g c =
     let s = c.args.self.now in record {
       numbered = s.numbered;
-      small = s.small;
       sized = c.store.auto.links ∙ s.sized;
       within = s.within;
       ready = (λ x h.
@@ -44,8 +42,7 @@ returns g c notes bytes =
     let x = c.args.cell.now in
     let r = c.in-Some.route in
     let m : Memory = record { cells = c.args.blocks.now; notes = notes; bytes = bytes } in
-    let few : p < 8 = omega (arith, s.small, c.requires.0) in
-    let known : v.tables.route p (vci_of x) ≡ Some r = sym (c.in-Some.ensures.entry ∙ ap (λ (n : ℕ). v.tables.route p n) (c.vci.ensures ∙ ap vci_of c.whole-cell.ensures)) in
+    let few : p < 8 = omega (arith, s.ports.eight, c.requires.port) in
+    let known : v.tables.route p (vci_of x) ≡ Some r = sym (c.in-Some.ensures.entry ∙ ap (λ (n : ℕ). v.tables.route p n) (c.vci.ensures)) in
     ap (λ (o : Option Route). routed v m p x o) known
-    ∙ stores v m p x r (cells_of c.store.new.links) c.store.new.blocks c.in_ok-ahead.ahead (inside c.with-self.result) (inside-with s.used c.with-self.result p few c.with-self.ensures)
-    (c.in_ok-ahead.ensures ∙ ap (λ (y : List ℕ). storing v.cells m.cells p r.output (record { cell = y; new_vci = r.new_vci }) (v.cells p).free) c.whole-cell.ensures)
+    ∙ stores v m p x r (cells_of c.store.new.links) c.store.new.blocks c.in_ok-ahead.ahead (inside c.with-self.result) (inside-with s.used c.with-self.result p few c.with-self.ensures) c.in_ok-ahead.ensures

@@ -19,7 +19,7 @@ returns-in-Some g c =
     let r = s.within x f.0 in
     let u = table_of (dropped (holds s.grants) x.0 x.1) in
     record {
-      done = λ m. closes-not v m t (not-true (wrong v Sending t) (sym c.fits.ensures ∙ c.if-not-fits.false)) x (pairs s.ports u) (pairs_first s.ports s.grants u x s.small r.0 r.1 f refl);
+      done = λ m. closes-not v m t (not-true (wrong v Sending t) (sym c.fits.ensures ∙ c.if-not-fits.false)) x (pairs s.ports.number u) (pairs_first s.ports.number s.grants u x s.ports.eight r.0 r.1 f refl);
       back = refl;
     }
 
@@ -29,6 +29,6 @@ returns g c =
     let v = view s in
     let t = grant_of c.args.ticket in
     record {
-      done = λ m. closes v m t (not-true (wrong v Sending t) (sym c.fits.ensures ∙ c.if-not-fits.false)) (pairs-none s.ports s.grants c.in_default.ensures);
+      done = λ m. closes v m t (not-true (wrong v Sending t) (sym c.fits.ensures ∙ c.if-not-fits.false)) (pairs-none s.ports.number s.grants c.in_default.ensures);
       back = tt;
     }

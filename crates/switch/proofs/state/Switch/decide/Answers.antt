@@ -11,16 +11,14 @@ use Rattle.switch.proofs.state.Switch.decide.Goals as goal
 pub count-self-requires : goal.count-self-requires
 count-self-requires g c =
     let s = c.args.self.now in
-    let a = g.A.Arbiter.meaning in (
-      s.small,
-      within-granted a (view s) s.arbiter c.requests-requests.result c.decide-grants.result (g.met.A.Arbiter.lawful.requested s.arbiter c.requests-requests.result) c.requests-requests.ensures c.decide-grants.ensures.answer,
-    )
+    let a = g.A.Arbiter.meaning in
+    within-granted a (view s) s.arbiter c.requests-requests.result c.decide-grants.result (g.met.A.Arbiter.lawful.requested s.arbiter c.requests-requests.result) c.requests-requests.ensures c.decide-grants.ensures.answer
 
 pub invariant_of-self : goal.invariant_of-self
 invariant_of-self g c =
     let s = c.args.self.now in
     let a = g.A.Arbiter.meaning in
-    let law = g.met.A.Arbiter.lawful.requested s.arbiter c.requests-requests.result in record { numbered = s.numbered; small = s.small; sized = s.sized; within = within-granted a (view s) s.arbiter c.requests-requests.result c.decide-grants.result law c.requests-requests.ensures c.decide-grants.ensures.answer; ready = ready-granted a (view s) s.arbiter c.requests-requests.result c.decide-grants.result law c.requests-requests.ensures c.decide-grants.ensures.answer s.cells refl }
+    let law = g.met.A.Arbiter.lawful.requested s.arbiter c.requests-requests.result in record { numbered = s.numbered; sized = s.sized; within = within-granted a (view s) s.arbiter c.requests-requests.result c.decide-grants.result law c.requests-requests.ensures c.decide-grants.ensures.answer; ready = ready-granted a (view s) s.arbiter c.requests-requests.result c.decide-grants.result law c.requests-requests.ensures c.decide-grants.ensures.answer s.cells refl }
 
 pub returns : goal.returns
 returns g c =

@@ -17,10 +17,10 @@ returns-in-Ok g c =
     let i = c.args.input in
     let x = c.args.bytes.now in
     let d = c.index-self-input.result in
-    let li : i < length s.cells = omega (arith, s.small, s.sized, c.if-input-self.false) in
+    let li : i < length s.cells = omega (arith, s.ports.eight, s.sized, c.if-input-ports.false, c.number-ports.ensures) in
     looked s i c.args.output c.args.blocks.now x _ _ _ (look_at c.args.blocks.now (place i c.in-Ok.block) x)
     (λ notes bytes. looks-at (view s) (record { cells = c.args.blocks.now; notes = notes; bytes = bytes }) i c.args.output x (Queued.view (get_or s.cells i d)) (cells_at s.cells i d li)
-    c.if-input-self.false c.if-output-self.false s.small c.if-blocks-self.false c.in-Ok.block c.in-Ok.ensures.number c.in-Ok.ensures.inside)
+    (omega (arith, c.if-input-ports.false, c.number-ports.ensures)) (omega (arith, c.if-output-ports.false, c.number-ports.ensures)) s.ports.eight (omega (arith, c.if-blocks-ports.false, c.number-ports.ensures)) c.in-Ok.block c.in-Ok.ensures.number c.in-Ok.ensures.inside)
     c.show_at.ensures.answer c.show_at.ensures.bytes c.show_at.ensures.kept
 
 pub returns-in_ok-check_length-in-Err : goal.returns-in_ok-check_length-in-Err
@@ -29,9 +29,9 @@ returns-in_ok-check_length-in-Err g c =
     let i = c.args.input in
     let x = c.args.bytes.now in
     let d = c.index-self-input.result in
-    let li : i < length s.cells = omega (arith, s.small, s.sized, c.if-input-self.false) in
+    let li : i < length s.cells = omega (arith, s.ports.eight, s.sized, c.if-input-ports.false, c.number-ports.ensures) in
     let long = right-length x _ c.in_ok-check_length-in-Err.ensures in
     looked s i c.args.output c.args.blocks.now x _ _ _ (cond {A = Result _ Refusal} (not53 x) (Err IdleOrLookLength) (Err NoCell))
     (λ notes bytes. looks-in-vain (view s) (record { cells = c.args.blocks.now; notes = notes; bytes = bytes }) i c.args.output x (Queued.view (get_or s.cells i d)) (cells_at s.cells i d li)
-    c.if-input-self.false c.if-output-self.false s.small c.if-blocks-self.false c.in-Err.field-0 c.in-Err.ensures.number)
+    (omega (arith, c.if-input-ports.false, c.number-ports.ensures)) (omega (arith, c.if-output-ports.false, c.number-ports.ensures)) s.ports.eight (omega (arith, c.if-blocks-ports.false, c.number-ports.ensures)) c.in-Err.field-0 c.in-Err.ensures.number)
     (sym (ap (λ (b : Bool). answered (cond b (Err IdleOrLookLength) (Err NoCell))) long)) (sym (ap (λ (b : Bool). written (cond b (Err IdleOrLookLength) (Err NoCell)) x) long)) refl

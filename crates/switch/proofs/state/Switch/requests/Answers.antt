@@ -13,10 +13,10 @@ loop-o-preserved g c =
     let i = c.loop-i.i in
     let o = c.loop-o.o in
     let l = get_or s.cells i c.index-self-i.result in
-    let size : i < length s.cells = omega (arith, s.small, s.sized) in
+    let size : i < length s.cells = omega (arith, s.ports.eight, s.sized, c.loop-i-test.true, c.number-ports.ensures) in
     let is : (view s).cells i ≡ Queued.view l = ap queues_of (slice_get-get_or s.cells i c.index-self-i.result size) in
     let wanted : wants (view s) i o ≡ c.is_ok.result =
-    wants-head (view s) i o (Queued.view l) c.loop-i-test.true c.loop-o-test.true s.small is ∙ ap is_ok (sym c.head_block.ensures.number) ∙ sym c.is_ok.ensures.value in
+    wants-head (view s) i o (Queued.view l) (omega (arith, c.loop-i-test.true, c.number-ports.ensures)) (omega (arith, c.loop-o-test.true, c.number-ports.ensures)) s.ports.eight is ∙ ap is_ok (sym c.head_block.ensures.number) ∙ sym c.is_ok.ensures.value in
     elim c.if-is_ok.branch [
       | then-is_ok w ↦ w.table-is ∙ w.with-table.ensures ∙ seen-with (wants (view s)) i o c.loop-o.table (wanted ∙ w.if-is_ok.true) c.loop-o.invariant
       | else-is_ok w ↦ w.table-is ∙ seen_same (wants (view s)) i o c.loop-o.table (wanted ∙ w.if-is_ok.false) c.loop-o.invariant

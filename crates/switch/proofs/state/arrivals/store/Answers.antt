@@ -1,13 +1,17 @@
-use Rattle.std.proofs.Common.{Ok, Err}
+use Rattle.std.proofs.Common.{◌-◌, ◌+◌, ◌*◌, Result, ℕ, rules, set, subst, sym}
+use borrow.Rule.Slice.PartMut.{put_mid}
+use Rattle.refusals.specs.declared.refusal.Refusal.{Refusal}
+use Rattle.refusals.specs.declared.refusal.Refusal.TheVariants.{InputFull}
+use Rattle.switch.specs.Ready.{cells_of}
+use Rattle.switch.specs.Seen.{Stores}
+use Rattle.switch.proofs.Errors.{error-mapped}
 use Rattle.switch.proofs.Middle.{store_is}
 use Rattle.switch.proofs.state.arrivals.store.Goals as goal
 
-pub returns-in-Ok : goal.returns-in-Ok
-returns-in-Ok c =
-    store_is c.args.links.now c.args.input c.index-links-input.result c.join.new.self c.args.blocks.now c.join.new.blocks c.args.queue c.args.block (Ok c.in-Ok.ahead)
-    c.requires.1.1 c.requires.0 c.requires.1.0 c.in-Ok.ensures
-
-pub returns-in-Err : goal.returns-in-Err
-returns-in-Err c =
-    store_is c.args.links.now c.args.input c.index-links-input.result c.join.new.self c.args.blocks.now c.join.new.blocks c.args.queue c.args.block (Err c.in-Err.field-0)
-    c.requires.1.1 c.requires.0 c.requires.1.0 c.in-Err.ensures
+pub returns : goal.returns
+returns c =
+    let i = c.args.input in
+    let xs = c.args.blocks.now in
+    subst (λ (r : Result ℕ Refusal). Stores (cells_of c.args.links.now) xs i c.args.queue c.args.block r (cells_of (set c.args.links.now i c.join.new.self)) (put_mid (i * 16) ((i * 16 + 16) - i * 16) xs c.join.new.blocks))
+    (sym (error-mapped InputFull c.join.result c.map_err.result _ (λ e k gives. search rules) c.map_err.ensures.cases))
+    (store_is c.args.links.now i c.index-links-input.result c.join.new.self xs c.join.new.blocks c.args.queue c.args.block c.join.result c.requires.links c.requires.queue c.requires.blocks c.join.ensures)
