@@ -1,5 +1,6 @@
 -- Ten worked figures.
-use Rattle.std.specs.Prelude.{Bool, false, ◌&&◌, ◌||◌, List, [], ◌∷◌, ◌≡◌, ℕ, ◌-◌, ◌/◌, ◌%◌, eqb}
+use Rattle.std.specs.Prelude.{Bool, ◌&&◌, ◌==◌, List, [], ◌∷◌, ◌≡◌, ℕ, ◌-◌, ◌/◌, ◌%◌}
+use Rattle.std.specs.List.{list_any}
 use Rattle.cells.specs.Header.{rewritten, vci_of}
 use Rattle.pairs.specs.declared.table.Table.{Table}
 use Rattle.pairs.specs.Tables.{holds, table_of, within}
@@ -9,8 +10,7 @@ use Rattle.arbiters.specs.Periods.{lengthened, longest}
 
 -- whether the pair (i, o) is one of those listed
 abbrev pub listed : List (ℕ × ℕ) → ℕ → ℕ → Bool
-listed [] i o = false
-listed (p ∷ ps) i o = (eqb i p.0 && eqb o p.1) || listed ps i o
+listed ps i o = list_any (λ p. i == p.0 && o == p.1) ps
 
 -- the table of the pairs listed
 abbrev pub table : List (ℕ × ℕ) → Table

@@ -1,5 +1,7 @@
 //! What lies in the memory that is lent to a switch.
 
+use std::fmt;
+
 /// A block of cell memory: a cell as it arrived, and the circuit number that it is to leave with.
 #[derive(Clone, Copy, PartialEq, Eq, Debug)]
 pub struct Block {
@@ -33,4 +35,19 @@ impl Note {
         came: 0,
         left: 0,
     };
+}
+
+impl fmt::Display for Note {
+    fn fmt<W: fmt::Write>(&self, f: &mut fmt::Formatter<W>) -> fmt::Result {
+        let Note {
+            slot,
+            input,
+            came,
+            left,
+        } = self;
+        write!(
+            f,
+            "slot {slot}, input {input}, came with {came:04X}, left with {left:04X}"
+        )
+    }
 }

@@ -3,6 +3,7 @@
 ghost use Rattle.switch.specs.Spent.{IsSpent};
 
 use refusals::Refusal;
+use std::fmt;
 
 /// What a ticket bears: the mark of its switch and the number of its slot.
 #[derive(Clone, Copy, PartialEq, Eq, Debug)]
@@ -15,6 +16,12 @@ pub(crate) struct Stamp {
 #[derive(Drop)]
 pub struct ArrivalTicket {
     pub(crate) stamp: Stamp,
+}
+
+impl fmt::Display for ArrivalTicket {
+    fn fmt<W: fmt::Write>(&self, f: &mut fmt::Formatter<W>) -> fmt::Result {
+        write!(f, "arrival ticket")
+    }
 }
 
 /// Lets the grants of a slot be sent. Only `close` spends it, and none that is handed out is spent: a program that lets one go is
