@@ -2,3 +2,4 @@ pub mod Written
 pub mod Playing
 pub mod Recording
 pub mod Players
+pub mod Answering

@@ -1,5 +1,5 @@
 -- What the lines of a recording do, one by one.
-use Rattle.std.specs.Prelude.{◌≡◌, ℕ, cond, List, [], ◌++◌, Ok, Err, Result}
+use Rattle.std.specs.Prelude.{◌≡◌, ℕ, cond, List, [], ◌++◌, Some, None, Option, Ok, Err, Result}
 use Rattle.arbiters.specs.declared.diagonal.Diagonal.{Diagonal}
 use Rattle.arbiters.specs.declared.ripple.Ripple.{Ripple}
 use Rattle.arbiters.specs.Kinds.{diagonals, ripples, counted, new_diagonal, new_ripple}
@@ -15,9 +15,8 @@ use Rattle.lines.specs.declared.reader.SlotLine.{SlotLine}
 use Rattle.machine.specs.Standing.{Standing, Told, Ended, routing, arriving, ending, is_open, starting}
 use Rattle.player.specs.Written.{ended_lines, refusal_line, answer_lines, silent}
 
--- no switch has been named yet, or the machine that the recording names
+-- the machine that a recording names
 pub data Stands : Type 0 where
-  nothing : Stands
   on_diagonal : Standing Diagonal → Stands
   on_ripple : Standing Ripple → Stands
 
@@ -50,32 +49,33 @@ abbrev pub with_ports : ArbiterKind → Result PortCount Refusal → (mark first
 with_ports kind (Ok c) mark first = Ok (named kind c mark first)
 with_ports kind (Err k) mark first = Err k
 
+-- what a frame names that is carried out before a machine stands; it is out of place if it is no start
+abbrev pub named_by : Frame → Result Stands Refusal
+named_by (Start ports kind mark first) = with_ports kind (counted ports) mark first
+named_by (Route i c o w) = Err OutOfPlace
+named_by (Cell i x) = Err OutOfPlace
+named_by Close = Err OutOfPlace
+
 -- it stands once it is made; refused, nothing stands
-abbrev pub begun : ℕ → Result Stands Refusal → Played Stands
-begun n (Ok s) = record { stands = s; written = [] }
-begun n (Err k) = record { stands = nothing; written = refusal_line n k }
+abbrev pub begun : ℕ → Result Stands Refusal → Played (Option Stands)
+begun n (Ok s) = record { stands = Some s; written = [] }
+begun n (Err k) = record { stands = None; written = refusal_line n k }
+
+abbrev pub wrapped : {S : Type 0} → (S → Stands) → Played S → Played (Option Stands)
+wrapped f p = record { stands = Some (f p.stands); written = p.written }
 
 -- the first frame that is carried out is a start
-abbrev pub beginning : ℕ → Frame → Played Stands
-beginning n (Start ports kind mark first) = begun n (with_ports kind (counted ports) mark first)
-beginning n (Route i c o w) = record { stands = nothing; written = refusal_line n OutOfPlace }
-beginning n (Cell i x) = record { stands = nothing; written = refusal_line n OutOfPlace }
-beginning n Close = record { stands = nothing; written = refusal_line n OutOfPlace }
-
-abbrev pub wrapped : {S : Type 0} → (S → Stands) → Played S → Played Stands
-wrapped f p = record { stands = f p.stands; written = p.written }
-
-abbrev pub frame_played : Stands → ℕ → Frame → Played Stands
-frame_played nothing n f = beginning n f
-frame_played (on_diagonal s) n f = wrapped on_diagonal (on_machine diagonals s n f)
-frame_played (on_ripple s) n f = wrapped on_ripple (on_machine ripples s n f)
+abbrev pub frame_played : Option Stands → ℕ → Frame → Played (Option Stands)
+frame_played None n f = begun n (named_by f)
+frame_played (Some (on_diagonal s)) n f = wrapped on_diagonal (on_machine diagonals s n f)
+frame_played (Some (on_ripple s)) n f = wrapped on_ripple (on_machine ripples s n f)
 
 -- a line that spells no frame is refused, and changes nothing
-abbrev pub result_played : Stands → ℕ → Result Frame Refusal → Played Stands
+abbrev pub result_played : Option Stands → ℕ → Result Frame Refusal → Played (Option Stands)
 result_played s n (Ok f) = frame_played s n f
 result_played s n (Err k) = record { stands = s; written = refusal_line n k }
 
-abbrev pub line_played : Stands → SlotLine → Played Stands
+abbrev pub line_played : Option Stands → SlotLine → Played (Option Stands)
 line_played s l = result_played s l.number l.frame
 
 -- what is written at the end of the input: a slot that is open is ended, and that is never refused
@@ -86,7 +86,7 @@ last_answer (Err k) = []
 abbrev pub last_of : {A : Type 0} → Meaning A → Standing A → List ℕ
 last_of a s = cond (is_open s) (last_answer (ending a s).reply) []
 
-abbrev pub last_lines : Stands → List ℕ
-last_lines nothing = []
-last_lines (on_diagonal s) = last_of diagonals s
-last_lines (on_ripple s) = last_of ripples s
+abbrev pub last_lines : Option Stands → List ℕ
+last_lines None = []
+last_lines (Some (on_diagonal s)) = last_of diagonals s
+last_lines (Some (on_ripple s)) = last_of ripples s

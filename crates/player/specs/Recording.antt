@@ -3,28 +3,28 @@ use Rattle.std.specs.Prelude.{◌≡◌, ℕ, List, [], ◌∷◌, ◌++◌, dro
 use Rattle.lines.specs.declared.reader.SlotLine.{SlotLine}
 use Rattle.lines.specs.Lines.{lines}
 use Rattle.lines.specs.Reading.{Reading, fresh, fed, after, last, numbered, still}
-use Rattle.player.specs.Playing.{Stands, nothing, Played, line_played, last_lines}
+use Rattle.player.specs.Playing.{Stands, Played, line_played, last_lines}
 
 -- what is written for some lines, and then at the end of the input
-abbrev pub written : Stands → List SlotLine → List ℕ
+abbrev pub written : Option Stands → List SlotLine → List ℕ
 written s [] = last_lines s
 written s (l ∷ more) = (line_played s l).written ++ written (line_played s l).stands more
 
 -- what a whole recording comes to
 abbrev pub comes_to : List ℕ → List ℕ
-comes_to input = written nothing (numbered 1 (lines input))
+comes_to input = written None (numbered 1 (lines input))
 
 -- a player: what it has read of a line, and what stands
 pub record Held : Type 0 where
   pub reading : Reading
-  pub stands : Stands
+  pub stands : Option Stands
 
 -- before anything was read, nothing stands
 abbrev pub starts : Held
-starts = record { reading = fresh; stands = nothing }
+starts = record { reading = fresh; stands = None }
 
 -- one call uses a piece up to its first 0A, or to its end, and plays the line that ends there
-abbrev pub maybe_played : Stands → Option SlotLine → Played Stands
+abbrev pub maybe_played : Option Stands → Option SlotLine → Played (Option Stands)
 maybe_played s None = record { stands = s; written = [] }
 maybe_played s (Some l) = line_played s l
 

@@ -11,6 +11,7 @@ use refusals::Refusal;
 use std::alloc::AllocError;
 
 /// What is written of a cell that was sent.
+// No `From`, since neither type is this crate's.
 fn departure_of(sent: &Sent) -> DepartureLine
     ensures { result ≡ departure_of sent.now }
 {

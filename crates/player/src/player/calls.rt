@@ -18,9 +18,8 @@ impl Player {
         ensures law { AnyPieces (held result) }
     {
         Player {
-            heap,
             reader: LineReader::new(),
-            playing: Playing::Nothing,
+            playing: Playing::new(heap),
         }
     }
 
@@ -33,8 +32,23 @@ impl Player {
         ensures forward { IfOk result (λ n. 0 < length piece.now → 0 < n) }
     {
         let fed = self.reader.feed(piece);
-        self.playing.play_any(self.heap, &fed.line, out)?;
+        if let Some(line) = &fed.line {
+            self.playing.play(line, out)?;
+        }
         Ok(fed.used)
+    }
+
+    /// Uses a whole piece of the recording: every line that ends in it is played, and what is answered is added to `out`. After
+    /// an error, for want of memory, the player is of no use.
+    pub fn feed_all(&mut self, piece: &[u8], out: &mut Vec<u8>) -> Result<(), AllocError>
+        ensures { OnOk result ((more : List ℕ) → out.new.items ++ still_written (held self.new) more ≡ out.old.items ++ still_written (held self.old) (piece.now ++ more)) }
+    {
+        let mut rest = piece;
+        while !rest.is_empty() {
+            let used = self.feed(rest, out)?;
+            rest = &rest[used..];
+        }
+        Ok(())
     }
 
     /// Ends the recording: a line that has begun is played, and a slot that is open is ended.
@@ -42,11 +56,12 @@ impl Player {
         ensures { OnOk result (out.new.items ≡ out.old.items ++ end_played (held self)) }
     {
         let Player {
-            heap,
             reader,
             mut playing,
         } = self;
-        playing.play_any(heap, &reader.finish(), out)?;
+        if let Some(line) = &reader.finish() {
+            playing.play(line, out)?;
+        }
         playing.end(out)
     }
 }

@@ -1,14 +1,14 @@
 //! Frames played, one by one.
 
-ghost use Rattle.arbiters.specs.Kinds.{counted};
 ghost use Rattle.machine.specs.Machines.{standing};
-ghost use Rattle.player.specs.Players.{stands_as};
-ghost use Rattle.player.specs.Recording.{maybe_played};
-ghost use Rattle.player.specs.Playing.{Does, beginning, frame_played, last_lines, last_of, line_played, nothing, on_machine, with_ports};
-ghost use Rattle.std.specs.Prelude.{◌≡◌, ◌++◌, IfOk, OnOk};
-ghost use Rattle.switch.specs.Seen.{told};
+ghost use Rattle.machine.specs.Standing.{starting};
+ghost use Rattle.player.specs.Players.{machine_as, stands_as};
+ghost use Rattle.player.specs.Playing.{Does, last_lines, last_of, line_played, named_by, on_machine, result_played};
+ghost use Rattle.player.specs.Answering.{Answers, IfRefused};
+ghost use Rattle.std.specs.Prelude.{◌≡◌, ◌++◌, IfErr, IfOk, None, OnOk, Err, Ok, box_value};
 
-use super::Playing;
+use super::unplayed::Unplayed;
+use super::{NamedMachine, Playing};
 use crate::writing::{write_ended, write_refusal};
 use arbiters::{Arbiter, Diagonal, Ripple};
 use lines::{ArbiterKind, Frame, SlotLine};
@@ -19,33 +19,25 @@ use std::alloc::{AllocError, Global};
 /// Does a frame on a machine, and writes what it answers.
 fn play_on<A: Arbiter>(
     machine: &mut Machine<A>,
-    number: u32,
     frame: &Frame,
     out: &mut Vec<u8>,
-) -> Result<(), AllocError>
-    ensures { OnOk result (Does (on_machine A.meaning (standing machine.old) number frame.now) (standing machine.new) out.old.items out.new.items) }
+) -> Result<(), Unplayed>
+    ensures { Answers (λ n. on_machine A.meaning (standing machine.old) n frame.now) result (standing machine.new) out.old.items out.new.items }
 {
-    let answer = match frame {
-        Frame::Start { .. } => Err(Refusal::OutOfPlace),
+    match frame {
+        Frame::Start { .. } => return Err(Refusal::OutOfPlace.into()),
         Frame::Route {
             input,
             vci,
             output,
             new_vci,
-        } => machine.set_route(*input, *vci, *output, *new_vci),
-        Frame::Cell { input, cell } => match machine.arrive(*input, cell) {
-            Ok(_) => Ok(()),
-            Err(refusal) => Err(refusal),
-        },
-        Frame::Close => match machine.end_slot() {
-            Ok(ended) => return write_ended(&ended, out),
-            Err(refusal) => Err(refusal),
-        },
-    };
-    match answer {
-        Ok(()) => Ok(()),
-        Err(refusal) => write_refusal(number, refusal, out),
+        } => machine.set_route(*input, *vci, *output, *new_vci)?,
+        Frame::Cell { input, cell } => {
+            machine.arrive(*input, cell)?;
+        }
+        Frame::Close => write_ended(&machine.end_slot()?, out)?,
     }
+    Ok(())
 }
 
 /// Ends the slot of a machine if one is open, and writes what is told of it.
@@ -61,107 +53,80 @@ fn end_open<A: Arbiter>(machine: &mut Machine<A>, out: &mut Vec<u8>) -> Result<(
     }
 }
 
+/// A machine of this arbiter, just made.
+fn made<A: Arbiter + Drop>(
+    heap: Global,
+    arbiter: A,
+    mark: u32,
+    first_slot: u32,
+) -> Result<Box<Machine<A>>, AllocError>
+    ensures { IfOk result (λ m. standing (box_value m) ≡ starting A.meaning arbiter mark first_slot) }
+{
+    Ok(Box::new(heap, Machine::new(arbiter, mark, first_slot))?)
+}
+
+impl NamedMachine {
+    /// The machine that a start frame names, just made. A frame of any other kind is out of place.
+    fn named(heap: Global, frame: &Frame) -> Result<NamedMachine, Unplayed>
+        ensures made { IfOk result (λ m. named_by frame.now ≡ Ok (machine_as m)) }
+        ensures refused { IfErr result (λ e. IfRefused e (λ k. named_by frame.now ≡ Err k)) }
+    {
+        let Frame::Start {
+            ports,
+            arbiter,
+            mark,
+            first_slot,
+        } = frame
+        else {
+            return Err(Refusal::OutOfPlace.into());
+        };
+        match arbiter {
+            ArbiterKind::Diagonal => {
+                let machine = made(heap, Diagonal::new(*ports)?, *mark, *first_slot)?;
+                Ok(NamedMachine::Diagonal(machine))
+            }
+            ArbiterKind::Ripple => {
+                let machine = made(heap, Ripple::new(*ports)?, *mark, *first_slot)?;
+                Ok(NamedMachine::Ripple(machine))
+            }
+        }
+    }
+}
+
 impl Playing {
-    /// The machine that a start frame names, its arbiter just made, or why there is none.
-    fn of_kind(
-        heap: Global,
-        kind: ArbiterKind,
-        ports: u8,
-        mark: u32,
-        first_slot: u32,
-    ) -> Result<Result<Playing, Refusal>, AllocError>
-        ensures { IfOk result (λ n. told stands_as n ≡ with_ports kind (counted ports) mark first_slot) }
+    /// At the start of a recording: no machine is named yet.
+    pub(crate) fn new(heap: Global) -> Playing
+        ensures { stands_as result ≡ None }
     {
-        match kind {
-            ArbiterKind::Diagonal => match Diagonal::new(ports) {
-                Ok(arbiter) => {
-                    let machine = Box::new(heap, Machine::new(arbiter, mark, first_slot))?;
-                    Ok(Ok(Playing::OnDiagonal(machine)))
-                }
-                Err(refusal) => Ok(Err(refusal)),
-            },
-            ArbiterKind::Ripple => match Ripple::new(ports) {
-                Ok(arbiter) => {
-                    let machine = Box::new(heap, Machine::new(arbiter, mark, first_slot))?;
-                    Ok(Ok(Playing::OnRipple(machine)))
-                }
-                Err(refusal) => Ok(Err(refusal)),
-            },
+        Playing {
+            heap,
+            machine: None,
         }
     }
 
-    /// Does the first frame that is carried out, or refuses it.
-    fn begin(
-        &mut self,
-        heap: Global,
-        number: u32,
-        frame: &Frame,
-        out: &mut Vec<u8>,
-    ) -> Result<(), AllocError>
-        requires { stands_as self.old ≡ nothing }
-        ensures { OnOk result (Does (beginning number frame.now) (stands_as self.new) out.old.items out.new.items) }
+    /// Does the frame of a line, and writes what is answered to it. The first that is carried out is a start.
+    fn play_frame(&mut self, line: &SlotLine, out: &mut Vec<u8>) -> Result<(), Unplayed>
+        ensures { Answers (λ n. result_played (stands_as self.old) n line.now.frame) result (stands_as self.new) out.old.items out.new.items }
     {
-        match frame {
-            Frame::Start {
-                ports,
-                arbiter,
-                mark,
-                first_slot,
-            } => match Playing::of_kind(heap, *arbiter, *ports, *mark, *first_slot)? {
-                Ok(playing) => {
-                    *self = playing;
-                    Ok(())
-                }
-                Err(refusal) => write_refusal(number, refusal, out),
-            },
-            _ => write_refusal(number, Refusal::OutOfPlace, out),
+        let frame = line.frame?;
+        match &mut self.machine {
+            Some(NamedMachine::Diagonal(machine)) => play_on(machine, &frame, out),
+            Some(NamedMachine::Ripple(machine)) => play_on(machine, &frame, out),
+            None => {
+                self.machine = Some(NamedMachine::named(self.heap, &frame)?);
+                Ok(())
+            }
         }
     }
 
-    /// Does a frame, and writes what is answered to it.
-    fn play_frame(
-        &mut self,
-        heap: Global,
-        number: u32,
-        frame: &Frame,
-        out: &mut Vec<u8>,
-    ) -> Result<(), AllocError>
-        ensures { OnOk result (Does (frame_played (stands_as self.old) number frame.now) (stands_as self.new) out.old.items out.new.items) }
-    {
-        match self {
-            Playing::Nothing => self.begin(heap, number, frame, out),
-            Playing::OnDiagonal(machine) => play_on(machine, number, frame, out),
-            Playing::OnRipple(machine) => play_on(machine, number, frame, out),
-        }
-    }
-
-    /// Does a line, and writes what is answered to it.
-    pub(crate) fn play(
-        &mut self,
-        heap: Global,
-        line: &SlotLine,
-        out: &mut Vec<u8>,
-    ) -> Result<(), AllocError>
+    /// Does a line, and writes what is answered to it, or why it is refused.
+    pub(crate) fn play(&mut self, line: &SlotLine, out: &mut Vec<u8>) -> Result<(), AllocError>
         ensures { OnOk result (Does (line_played (stands_as self.old) line.now) (stands_as self.new) out.old.items out.new.items) }
     {
-        match &line.frame {
-            Ok(frame) => self.play_frame(heap, line.number, frame, out),
-            Err(refusal) => write_refusal(line.number, *refusal, out),
-        }
-    }
-
-    /// Plays the line if there is one.
-    pub(crate) fn play_any(
-        &mut self,
-        heap: Global,
-        line: &Option<SlotLine>,
-        out: &mut Vec<u8>,
-    ) -> Result<(), AllocError>
-        ensures { OnOk result (Does (maybe_played (stands_as self.old) line.now) (stands_as self.new) out.old.items out.new.items) }
-    {
-        match line {
-            Some(line) => self.play(heap, line, out),
-            None => Ok(()),
+        match self.play_frame(line, out) {
+            Ok(()) => Ok(()),
+            Err(Unplayed::Refused(refusal)) => write_refusal(line.number, refusal, out),
+            Err(Unplayed::NoMemory(error)) => Err(error),
         }
     }
 
@@ -169,10 +134,10 @@ impl Playing {
     pub(crate) fn end(&mut self, out: &mut Vec<u8>) -> Result<(), AllocError>
         ensures { OnOk result (out.new.items ≡ out.old.items ++ last_lines (stands_as self.old)) }
     {
-        match self {
-            Playing::Nothing => Ok(()),
-            Playing::OnDiagonal(machine) => end_open(machine, out),
-            Playing::OnRipple(machine) => end_open(machine, out),
+        match &mut self.machine {
+            Some(NamedMachine::Diagonal(machine)) => end_open(machine, out),
+            Some(NamedMachine::Ripple(machine)) => end_open(machine, out),
+            None => Ok(()),
         }
     }
 }
