@@ -1,3 +1,2 @@
-mod Appending
 mod Starting
 mod Pieces

@@ -1,5 +1,6 @@
 -- The bytes that the answers of a machine are written as.
-use Rattle.std.specs.Prelude.{ℕ, List, [], ◌∷◌, ◌++◌, Ok, Err, Result}
+use Rattle.std.specs.Prelude.{ℕ, List, [], ◌++◌, Ok, Err, Result}
+use Rattle.std.specs.List.{flat_map}
 use Rattle.refusals.specs.declared.refusal.Refusal.{Refusal}
 use Rattle.refusals.specs.Numbers.{number_of}
 use Rattle.lines.specs.declared.written.DepartureLine.{DepartureLine}
@@ -13,8 +14,7 @@ departure_of x = record { output = x.output; slot = x.note.slot; input = x.note.
 
 -- a line for each cell that was sent, in order
 abbrev pub sent_lines : List Sent → List ℕ
-sent_lines [] = []
-sent_lines (x ∷ xs) = written (departure_bytes (departure_of x)) ++ sent_lines xs
+sent_lines = flat_map (λ x. written (departure_bytes (departure_of x)))
 
 -- and then the line of the closing
 abbrev pub ended_lines : Ended → List ℕ
