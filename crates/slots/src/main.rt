@@ -4,9 +4,8 @@
 
 use anyhow::anyhow;
 use player::Player;
-use std::alloc::Global;
-use std::env;
-use std::io::{BufRead, BufReader, Read, Write};
+use std::io::Write;
+use std::{env, io};
 
 const HELP: &str = "\
 slots: plays a recording of slot lines on the switch that it names
@@ -24,66 +23,61 @@ docs/SLOT-LINES.md has the format, docs/EXAMPLE.md a recording with every byte e
 /// How much is written at once.
 const FULL: usize = 65536;
 
-/// Writes what has gathered.
-fn write_out<W: Write>(gathered: &mut Vec<u8>, out: &mut W) -> anyhow::Result<()> {
-    let answer = out.write_all(gathered);
-    gathered.clear();
-    Ok(answer?)
+/// A recording that is played as it is written here. What is answered gathers, and is handed on by and by.
+struct Playback<W> {
+    player: Player,
+    gathered: Vec<u8>,
+    out: W,
 }
 
-/// Plays every line that ends in the chunk.
-fn play_chunk<W: Write>(
-    chunk: &[u8],
-    player: &mut Player,
-    gathered: &mut Vec<u8>,
-    out: &mut W,
-) -> anyhow::Result<()> {
-    let mut at = 0;
-    while at < chunk.len() {
-        let used = player.feed(&chunk[at..], gathered)?;
-        at += used;
-        if gathered.len() >= FULL {
-            write_out(gathered, out)?;
-        }
+impl<W: Write> Playback<W> {
+    /// Hands on what has gathered.
+    fn hand_on(&mut self) -> io::Result<()> {
+        let answer = self.out.write_all(&self.gathered);
+        self.gathered.clear();
+        answer
     }
-    Ok(())
 }
 
-/// Plays all input.
-fn play_all<R: Read + Drop, W: Write>(
-    alloc: Global,
-    input: R,
-    mut player: Player,
-    gathered: &mut Vec<u8>,
-    out: &mut W,
-) -> anyhow::Result<()> {
-    let mut input = BufReader::new(alloc, input)?;
-    for _ in 0..u64::MAX {
-        let chunk = input.fill_buf()?;
-        let size = chunk.len();
-        if size == 0 {
-            break;
+impl<W: Write> Write for Playback<W> {
+    /// Plays every line that ends in the piece.
+    fn write(&mut self, piece: &[u8]) -> io::Result<usize> {
+        self.player.feed_all(piece, &mut self.gathered)?;
+        if self.gathered.len() >= FULL {
+            self.hand_on()?;
         }
-        play_chunk(chunk, &mut player, gathered, out)?;
-        input.consume(size);
+        Ok(piece.len())
     }
+
+    fn flush(&mut self) -> io::Result<()> {
+        self.hand_on()?;
+        self.out.flush()
+    }
+}
+
+/// Ends the recording if all of the input was played.
+fn end(copied: io::Result<u64>, player: Player, gathered: &mut Vec<u8>) -> io::Result<()> {
+    copied?;
     Ok(player.finish(gathered)?)
 }
 
 /// Plays standard input. What has gathered is written even where the input breaks off.
 fn play(rt: &HostRuntime) -> anyhow::Result<()> {
-    let mut out = rt.stdout();
-    let mut gathered = Vec::with_capacity(rt.alloc(), 2 * FULL)?;
-    let answer = play_all(
-        rt.alloc(),
-        rt.stdin(),
-        Player::new(rt.alloc()),
-        &mut gathered,
-        &mut out,
-    );
-    write_out(&mut gathered, &mut out)?;
+    let mut playback = Playback {
+        player: Player::new(rt.alloc()),
+        gathered: Vec::with_capacity(rt.alloc(), 2 * FULL)?,
+        out: rt.stdout(),
+    };
+    let copied = io::copy(&mut rt.stdin(), &mut playback);
+    let Playback {
+        player,
+        mut gathered,
+        mut out,
+    } = playback;
+    let answer = end(copied, player, &mut gathered);
+    out.write_all(&gathered)?;
     out.flush()?;
-    answer
+    Ok(answer?)
 }
 
 fn run(rt: &HostRuntime) -> anyhow::Result<()> {
