@@ -1,5 +1,5 @@
 -- A join or a take is refused and leaves all as it was, or it moves one block.
-use Rattle.std.proofs.Common.{◌≡◌, ℕ, ◌<◌, cond, eqb, ltb, ◌⊎◌, List, [], ◌∷◌, ◌++◌, length, set, Some, None, Ok, Err, Option, Result, sym, refl, ap, ◌∙◌, inl, inr, arith}
+use Rattle.std.proofs.Common.{◌≡◌, ℕ, ◌<◌, cond, eqb, ltb, ◌⊎◌, List, [], ◌∷◌, ◌++◌, length, set, Some, None, Ok, Err, Option, Result, sym, refl, ap, ◌∙◌, inl, inr}
 use Rattle.std.specs.List.{slice_get}
 use Rattle.queues.specs.declared.refusal.QueueRefusal.{QueueRefusal}
 use Rattle.queues.specs.Queues.{Queues, put, taken_by}
@@ -13,7 +13,7 @@ fits-queue B n q x e =
     elim (cases_Bool (ltb q 8)) [
       | inl t ↦ ltb-true q 8 t
       | inr f ↦ let bad : ◌≡◌ {A = Result (Unit {0}) QueueRefusal} (Ok x) (Err NoSuchQueue) = e ∙ ap (λ b. then (cond b (Ok tt) (Err NoSuchQueue)) (cond (eqb n B) (Ok tt) (Err BlockCount))) f in
-          let z : ◌≡◌ {A = ℕ} 0 1 = cc in absurd (omega arith)
+          absurd cc
     ]
 
 fits-blocks : (B n q : ℕ) (x : Unit {0}) → Ok x ≡ fits B n q → n ≡ B
@@ -22,7 +22,7 @@ fits-blocks B n q x e =
       | inl t ↦ eqb-true n B t
       | inr f ↦ let bad : ◌≡◌ {A = Result (Unit {0}) QueueRefusal} (Ok x) (Err BlockCount)
           = e ∙ ap (λ b. then (queue_fits q) (cond b (Ok tt) (Err BlockCount))) f ∙ ap (λ b. then (cond b (Ok tt) (Err NoSuchQueue)) (Err BlockCount)) (lt-ltb q 8 (fits-queue B n q x e)) in
-          let z : ◌≡◌ {A = ℕ} 0 1 = cc in absurd (omega arith)
+          absurd cc
     ]
 
 module _ {E : Type 0} (B : ℕ) (s : Queues) (xs : List E) (q : ℕ) where

@@ -119,7 +119,7 @@ module _ {E : Type 0} (B : ℕ) (es : List (Event E)) (s : Queues) (xs : List E)
   first-held :
       (v : E) (hs : List (Option E)) (l : List E) → Some v ∷ hs ≡ map Some l
       → (more : List E) × (l ≡ v ∷ more) × (hs ≡ map Some more)
-  first-held v hs [] e = let z : ◌≡◌ {A = ℕ} 0 1 = cc in absurd (omega arith)
+  first-held v hs [] e = absurd cc
   first-held v hs (x ∷ l) e = (l, cc, cc)
 
   kept-taken :
@@ -161,7 +161,7 @@ module _ {E : Type 0} (B : ℕ) (es : List (Event E)) (s : Queues) (xs : List E)
 
   none_free : (v : E) (l : List ℕ) → (join_by s xs q v l).answer ≡ Err NoFreeBlock → l ≡ []
   none_free v [] e = refl
-  none_free v (b ∷ l) e = let z : ◌≡◌ {A = ℕ} 0 1 = cc in absurd (omega arith)
+  none_free v (b ∷ l) e = absurd cc
 
   all_hold : AllHold B s → (l : List ℕ) → s.free ≡ l → l ≡ []
   all_hold all [] e = refl
@@ -182,7 +182,7 @@ kept-law B es s xs k = record {
 }
 
 ok-not-err : {A : Type 0} (x : A) (e : QueueRefusal) → ◌≡◌ {A = Result A QueueRefusal} (Ok x) (Err e) → ⊥
-ok-not-err x e h = let z : ◌≡◌ {A = ℕ} 0 1 = cc in omega arith
+ok-not-err x e h = cc
 
 kept : {E : Type 0} (B : ℕ) {es : List (Event E)} {s : Queues} {xs : List E} → Run B es s xs → Kept B es s xs
 kept B (start xs) = kept-start B xs

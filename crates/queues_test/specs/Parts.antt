@@ -1,9 +1,14 @@
 -- Queues whose blocks are a part of a larger memory.
-use Rattle.std.specs.Prelude.{◌≡◌, ℕ, ◌+◌, cond, List, ◌++◌, length, take, drop, Err, nat_le}
+use Rattle.std.specs.Prelude.{◌≡◌, ℕ, ◌+◌, cond, List, ◌++◌, length, take, drop, Ok, Err, Result, nat_le}
 use Rattle.std.specs.List.{between}
+use Rattle.queues.specs.declared.refusal.QueueRefusal.{QueueRefusal}
 use Rattle.queues.specs.declared.refusal.QueueRefusal.TheVariants.{BlockCount}
 use Rattle.queues.specs.Queues.{Queues}
 use Rattle.queues.specs.Calls.{Outcome, outcome, join_call, take_call}
+
+-- where the B blocks from `at` on end: a memory that has not all of them is refused
+abbrev pub part_end : ℕ → ℕ → ℕ → Result ℕ QueueRefusal
+part_end B at memory = cond (nat_le (at + B) memory) (Ok (at + B)) (Err BlockCount)
 
 -- the memory xs with ys in the place of the B blocks from `at` on
 abbrev pub with_part : {E : Type 0} → ℕ → ℕ → List E → List E → List E

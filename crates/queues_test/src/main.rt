@@ -9,13 +9,7 @@ use std::io;
 
 /// How many blocks hold something else than `blank`.
 fn written(memory: &[u32], blank: u32) -> usize {
-    let mut blocks = 0;
-    for x in memory {
-        if *x != blank {
-            blocks += 1;
-        }
-    }
-    blocks
+    memory.iter().filter(|&&x| x != blank).count()
 }
 
 /// Cells join and leave queues of port 1, until its 16 blocks are full.

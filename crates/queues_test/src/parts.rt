@@ -3,9 +3,19 @@
 ghost use Rattle.std.specs.Prelude.{◌≡◌, ◌*◌};
 ghost use Rattle.queues.specs.Calls.{join_call, outcome};
 ghost use Rattle.queues.specs.Queues.{view};
-ghost use Rattle.queues_test.specs.Parts.{Untouched, join_part, take_part};
+ghost use Rattle.queues_test.specs.Parts.{Untouched, join_part, part_end, take_part};
 
 use queues::{Links, QueueRefusal};
+
+/// Where the `blocks` blocks from `start` on end, in a memory that has them.
+fn end_of_part(blocks: usize, start: usize, memory: usize) -> Result<usize, QueueRefusal>
+    ensures { result ≡ part_end blocks start memory }
+{
+    start
+        .checked_add(blocks)
+        .filter(|&end| end <= memory)
+        .ok_or(QueueRefusal::BlockCount)
+}
 
 /// Joins a queue whose blocks are those of the memory from `start` on.
 pub fn join_part<T: Copy, const B: usize>(
@@ -18,10 +28,8 @@ pub fn join_part<T: Copy, const B: usize>(
     ensures done { outcome result (view links.new) memory.new ≡ join_part B start (view links.old) memory.old queue element }
     ensures untouched { Untouched B start memory.old memory.new }
 {
-    if start > memory.len() || memory.len() - start < B {
-        return Err(QueueRefusal::BlockCount);
-    }
-    links.join(&mut memory[start..start + B], queue, element)
+    let end = end_of_part(B, start, memory.len())?;
+    links.join(&mut memory[start..end], queue, element)
 }
 
 /// Takes the head of a queue whose blocks are those of the memory from `start` on.
@@ -34,10 +42,8 @@ pub fn take_part<T: Copy, const B: usize>(
     ensures answer { result ≡ (take_part B start (view links.old) memory.now queue).answer }
     ensures queues { view links.new ≡ (take_part B start (view links.old) memory.now queue).queues }
 {
-    if start > memory.len() || memory.len() - start < B {
-        return Err(QueueRefusal::BlockCount);
-    }
-    links.take(&memory[start..start + B], queue)
+    let end = end_of_part(B, start, memory.len())?;
+    links.take(&memory[start..end], queue)
 }
 
 /// How many ports share a cell memory.
