@@ -20,15 +20,11 @@ fn work(calls: u64) -> u64 {
         chance = scramble(chance);
         let queue = (chance >> 61) as usize;
         let seen = if chance & 0x1000_0000 == 0 {
-            match links.join(&mut blocks, queue, chance) {
-                Ok(ahead) => ahead as u64,
-                Err(_) => 64,
-            }
+            links
+                .join(&mut blocks, queue, chance)
+                .map_or(64, |ahead| ahead as u64)
         } else {
-            match links.take(&blocks, queue) {
-                Ok(element) => element,
-                Err(_) => 65,
-            }
+            links.take(&blocks, queue).unwrap_or(65)
         };
         sum = sum.wrapping_mul(31).wrapping_add(seen);
     }
@@ -36,12 +32,10 @@ fn work(calls: u64) -> u64 {
 }
 
 fn main(rt: HostRuntime) -> io::Result<()> {
-    let mut calls = 1000;
-    if let Some(word) = env::args(&rt)?.nth(1) {
-        if let Ok(n) = word.parse::<u64>() {
-            calls = n;
-        }
-    }
+    let calls = env::args(&rt)?
+        .nth(1)
+        .and_then(|word| word.parse().ok())
+        .unwrap_or(1000);
     let sum = work(calls);
     println!(rt; "{calls} joins and takes: {sum}")
 }
