@@ -10,23 +10,17 @@ fn vci_of(input: u8, k: u8) -> u16 {
     (k as u16).wrapping_mul(977).wrapping_add(input as u16)
 }
 
-fn with_route(tables: Routes, input: u8, k: u8) -> Routes {
-    let route = Route {
-        vci: vci_of(input, k),
-        output: k % 8,
-        new_vci: k as u16,
-    };
-    match tables.set(8, input, route) {
-        Ok(after) => after,
-        Err(e) => e.routes,
-    }
-}
-
+/// Tables with 32 routes at each of 8 inputs.
 fn filled() -> Routes {
     let mut tables = Routes::new();
-    for input in 0..8u8 {
+    for input in 0..8 {
         for k in 0..32u8 {
-            tables = with_route(tables, input, k);
+            let route = Route {
+                vci: vci_of(input, k),
+                output: k % 8,
+                new_vci: k as u16,
+            };
+            let _ = tables.set(8, input, route);
         }
     }
     tables

@@ -1,9 +1,14 @@
--- The first routes of one input, as a function of the place: which of them fits a VCI.
-use Rattle.std.proofs.Common.{◌≡◌, ℕ, zero, suc, ◌+◌, ◌<◌, true, false, cond, ◌⊎◌, Some, None, sym, refl, ap, ◌∙◌, inl, inr, add-one, arith}
+-- The first routes of a table, as a function of the place: which of them fits a VCI.
+use Rattle.std.proofs.Common.{◌≡◌, ℕ, zero, suc, ◌+◌, ◌<◌, true, false, cond, ◌⊎◌, Some, None, Option, sym, refl, ap, ◌∙◌, inl, inr, add-one, arith}
 use Rattle.std.proofs.lemmas.Bool.{cases_eq, cases_order, cases_Bool, both_ways, eq-eqb, eqb-true}
 use Rattle.routes.specs.declared.route.Route.{Route}
 use Rattle.routes.specs.Fits.{fits}
-use Rattle.routes.specs.Table.{Apart, Within, among}
+use Rattle.routes.specs.Table.{Apart, Within}
+
+-- of the routes f 0 to f (n - 1), the last that fits circuit v
+abbrev pub among : (ℕ → Route) → ℕ → ℕ → Option Route
+among f zero v = None
+among f (suc n) v = cond (fits (f n) v) (Some (f n)) (among f n v)
 
 -- a route that fits has the VCI, and the other way round
 pub fits-vci : (r : Route) (v : ℕ) → fits r v ≡ true → r.vci ≡ v
@@ -50,14 +55,11 @@ among-agree f g (suc n) v h =
     elim (h n (omega arith)) [ inl q ↦ rw (q, rest) | inr q ↦ rw (q.0, q.1) rest ]
 
 -- what a place holds depends only on the places below n
-pub apart-same : (f g : ℕ → Route) (n : ℕ) → ((k : ℕ) → k < n → g k ≡ f k) → Apart f n → Apart g n
+apart-same : (f g : ℕ → Route) (n : ℕ) → ((k : ℕ) → k < n → g k ≡ f k) → Apart f n → Apart g n
 apart-same f g n h d a b p =
     let ea : g a ≡ f a = h a (omega (arith, p.0, p.1)) in
     let eb : g b ≡ f b = h b p.1 in
     d a b (p.0, p.1, sym (ap (λ (r : Route). r.vci) ea) ∙ (p.2 ∙ ap (λ (r : Route). r.vci) eb))
-
-pub within_same : (f g : ℕ → Route) (n : ℕ) → ((k : ℕ) → k < n → g k ≡ f k) → Within f n → Within g n
-within_same f g n h w k l = rw (h k l) (w k l)
 
 -- g is f with route r at place k, of the n that are used
 pub record Put (f g : ℕ → Route) (n k : ℕ) (r : Route) : Type 0 where

@@ -1,6 +1,6 @@
 pub mod Among
+pub mod Changes
 pub mod Counting
 pub mod Lookups
 pub mod Outcomes
-pub mod Steps
-pub mod Writes
+pub mod Lifting

@@ -1,55 +1,66 @@
--- What a change answers, from the step that it takes or the reason that it refuses for.
-use Rattle.std.proofs.Common.{◌≡◌, ℕ, ◌+◌, ◌-◌, ◌<◌, ◌≤◌, true, false, ◌&&◌, List, length, get_or, set, is_some, Some, None, Ok, Err, Option, Result, sym, refl, ap, ◌∙◌, ap₂, inl, inr}
-use mathlib.Core.Path.{fun_ext}
-use Rattle.std.proofs.lemmas.List.{get_or-set_same, get_or-set_other}
-use Rattle.std.proofs.lemmas.Bool.{cases_eq, cond-true, cond-false, eq-eqb, ne_eqb, lt-ltb, le-ltb}
+-- The ways through a change of one table: what the table is afterwards, and what is answered.
+use Rattle.std.proofs.Common.{◌≡◌, ℕ, ◌+◌, ◌-◌, ◌<◌, ◌≤◌, length, set, take, true, false, is_some, Some, None, Ok, Err, Option, Result, position, sym, ap, ◌∙◌, subst, arith}
+use Rattle.std.proofs.lemmas.Bool.{cond-true, cond-false, lt-ltb, le-ltb}
 use Rattle.refusals.specs.declared.refusal.Refusal.{Refusal}
 use Rattle.refusals.specs.declared.refusal.Refusal.TheVariants.{RoutesFull, NoSuchRoute}
 use Rattle.routes.specs.declared.route.Route.{Route}
-use Rattle.routes.specs.declared.tables.Routes.{Routes}
+use Rattle.routes.specs.declared.table.Table.{Table}
 use Rattle.routes.specs.Fits.{fits}
-use Rattle.routes.specs.Table.{place, NoneFits, route_at, changed}
-use Rattle.routes.specs.Map.{Tables, count_at, tables_of, recounted, is_port, setting, removing}
-use Rattle.routes.proofs.Among.{fits-vci, among-at, among_none}
-
--- the map has an entry where a place fits, and none where no place does
-pub has-entry : (t : Routes) (i v k : ℕ) → k < count_at t i → fits (place t.routes i k) v ≡ true → is_some ((tables_of t).route i v) ≡ true
-has-entry t i v k l e = ap is_some (among-at (place t.routes i) (count_at t i) v k (t.distinct i) l e)
-
-pub no-entry : (t : Routes) (i v : ℕ) → NoneFits t.routes t.counts i v → is_some ((tables_of t).route i v) ≡ false
-no-entry t i v h = ap is_some (among_none (place t.routes i) (count_at t i) v h)
+use Rattle.routes.specs.Table.{place, entry}
+use Rattle.routes.specs.Entries.{Entries, entries_of, setting_entry, removing_entry}
+use Rattle.routes.proofs.Among.{fits-vci}
+use Rattle.routes.proofs.Changes.{Sound, Becomes, replaced, added, taken}
+use Rattle.routes.proofs.Lookups.{found, missing, entry-at, entry_none}
 
 -- the answer of a change that was carried out
-abbrev made : (ℕ → ℕ → Option Route) → (ℕ → ℕ) → Result Tables Refusal
-made m c = Ok (record { route = m; count = c })
+abbrev made : (ℕ → Option Route) → ℕ → Result Entries Refusal
+made m n = Ok (record { route = m; count = n })
 
--- another count written for input i
-recount : (counts after : List ℕ) (i n : ℕ) → i < length counts → after ≡ set counts i n → (λ j. get_or after j 0) ≡ recounted (λ j. get_or counts j 0) i n
-recount counts after i n l e =
-    fun_ext (λ j. ap (λ (xs : List ℕ). get_or xs j 0) e ∙ elim (cases_eq j i) [
-      | inl q ↦
-          rw (q, eq-eqb i i refl) (get_or-set_same counts i n 0 l)
-      | inr q ↦ rw (ne_eqb j i q) (get_or-set_other counts i j n 0 q)
-    ])
+module _ (t : Table) (places : length t.routes ≡ 32) (v : ℕ) where
+  abbrev looked : Option ℕ
+  looked = position (λ r. fits r v) (take t.count t.routes)
 
-pub set-replaces : (t u : Routes) (ports i k : ℕ) (r : Route) → (is_port ports i && is_port ports r.output) ≡ true → k < count_at t i → fits (place t.routes i k) r.vci ≡ true → route_at u.routes u.counts ≡ changed (route_at t.routes t.counts) i r.vci (Some r) → u.counts ≡ t.counts → Ok (tables_of u) ≡ setting (tables_of t) ports i r
-set-replaces t u ports i k r p l e m c =
-    ap₂ made m (fun_ext (λ j. ap (λ (xs : List ℕ). get_or xs j 0) c))
-    ∙ (sym (cond-true _ _ _ (has-entry t i r.vci k l e)) ∙ sym (cond-true _ _ _ p))
+  within : t.count ≤ length t.routes
+  within = let room = t.room in omega (arith, room, places)
 
-pub set-adds : (t u : Routes) (ports i : ℕ) (r : Route) → i < length t.counts → (is_port ports i && is_port ports r.output) ≡ true → count_at t i < 32 → NoneFits t.routes t.counts i r.vci → route_at u.routes u.counts ≡ changed (route_at t.routes t.counts) i r.vci (Some r) → u.counts ≡ set t.counts i (count_at t i + 1) → Ok (tables_of u) ≡ setting (tables_of t) ports i r
-set-adds t u ports i r l p n none m c =
-    ap₂ made m (recount t.counts u.counts i (count_at t i + 1) l c)
-    ∙ (sym (cond-true _ _ _ (lt-ltb (count_at t i) 32 n)) ∙ (sym (cond-false _ _ _ (no-entry t i r.vci none)) ∙ sym (cond-true _ _ _ p)))
+  sound : Sound t.routes t.count
+  sound = record { places = places; room = t.room; distinct = t.distinct; outputs = t.outputs; counted = t.counted }
 
-pub set_full : (t : Routes) (ports i : ℕ) (r : Route) → (is_port ports i && is_port ports r.output) ≡ true → 32 ≤ count_at t i → NoneFits t.routes t.counts i r.vci → Err RoutesFull ≡ setting (tables_of t) ports i r
-set_full t ports i r p n none =
-    sym (cond-false _ _ _ (le-ltb (count_at t i) 32 n)) ∙ (sym (cond-false _ _ _ (no-entry t i r.vci none)) ∙ sym (cond-true _ _ _ p))
+  has-entry : (k : ℕ) → looked ≡ Some k → is_some (entry t.routes t.count v) ≡ true
+  has-entry k e = let h = found t.routes t.count v within k e in ap is_some (entry-at t.routes t.count v within t.distinct k h.0 h.1)
 
-pub remove-takes : (t u : Routes) (ports i k v : ℕ) → i < length t.counts → is_port ports i ≡ true → k < count_at t i → fits (place t.routes i k) v ≡ true → route_at u.routes u.counts ≡ changed (route_at t.routes t.counts) i (place t.routes i k).vci None → u.counts ≡ set t.counts i (count_at t i - 1) → Ok (tables_of u) ≡ removing (tables_of t) ports i v
-remove-takes t u ports i k v l p lk e m c =
-    ap₂ made (m ∙ ap (λ (w : ℕ). changed (route_at t.routes t.counts) i w None) (fits-vci (place t.routes i k) v e)) (recount t.counts u.counts i (count_at t i - 1) l c)
-    ∙ (sym (cond-true _ _ _ (has-entry t i v k lk e)) ∙ sym (cond-true _ _ _ p))
+  no-entry : looked ≡ None → is_some (entry t.routes t.count v) ≡ false
+  no-entry e = ap is_some (entry_none t.routes t.count v within t.distinct (missing t.routes t.count v within e))
 
-pub remove-none : (t : Routes) (ports i v : ℕ) → is_port ports i ≡ true → NoneFits t.routes t.counts i v → Err NoSuchRoute ≡ removing (tables_of t) ports i v
-remove-none t ports i v p none = sym (cond-false _ _ _ (no-entry t i v none)) ∙ sym (cond-true _ _ _ p)
+  -- removing a route that is found at place k
+  pub taken-at : (k : ℕ) → looked ≡ Some k → v < 65536 → Becomes t.routes t.count (set t.routes k (place t.routes (t.count - 1))) (t.count - 1) v None
+  taken-at k e lv =
+      let h = found t.routes t.count v within k e in
+      let same : (place t.routes k).vci ≡ v = fits-vci (place t.routes k) v h.1 in
+      subst (λ u. Becomes t.routes t.count (set t.routes k (place t.routes (t.count - 1))) (t.count - 1) u None) same (taken t.routes t.count sound k h.0 (rw same lv))
+
+  pub remove-takes : (k : ℕ) → looked ≡ Some k → v < 65536 → made (entry (set t.routes k (place t.routes (t.count - 1))) (t.count - 1)) (t.count - 1) ≡ removing_entry (entries_of t) v
+  remove-takes k e lv = ap (λ m. made m (t.count - 1)) (taken-at k e lv).map ∙ sym (cond-true _ _ _ (has-entry k e))
+
+  pub remove-none : looked ≡ None → Err NoSuchRoute ≡ removing_entry (entries_of t) v
+  remove-none e = sym (cond-false _ _ _ (no-entry e))
+
+module _ (t : Table) (places : length t.routes ≡ 32) (r : Route) where
+  -- setting a route whose VCI is found at place k
+  pub replaced-at : (k : ℕ) → looked t places r.vci ≡ Some k → r.output < 8 → r.vci < 65536 → Becomes t.routes t.count (set t.routes k r) t.count r.vci (Some r)
+  replaced-at k e lo lv = let h = found t.routes t.count r.vci (within t places r.vci) k e in replaced t.routes t.count (sound t places r.vci) k r h.0 h.1 lo lv
+
+  pub set-replaces : (k : ℕ) → looked t places r.vci ≡ Some k → r.output < 8 → r.vci < 65536 → made (entry (set t.routes k r) t.count) t.count ≡ setting_entry (entries_of t) r
+  set-replaces k e lo lv = ap (λ m. made m t.count) (replaced-at k e lo lv).map ∙ sym (cond-true _ _ _ (has-entry t places r.vci k e))
+
+  -- setting a route with a new VCI
+  pub added-last : looked t places r.vci ≡ None → t.count < 32 → r.output < 8 → r.vci < 65536 → Becomes t.routes t.count (set t.routes t.count r) (t.count + 1) r.vci (Some r)
+  added-last e l lo lv = added t.routes t.count (sound t places r.vci) r l (missing t.routes t.count r.vci (within t places r.vci) e) lo lv
+
+  pub set-adds : looked t places r.vci ≡ None → t.count < 32 → r.output < 8 → r.vci < 65536 → made (entry (set t.routes t.count r) (t.count + 1)) (t.count + 1) ≡ setting_entry (entries_of t) r
+  set-adds e l lo lv =
+      ap (λ m. made m (t.count + 1)) (added-last e l lo lv).map
+      ∙ (sym (cond-true _ _ _ (lt-ltb t.count 32 l)) ∙ sym (cond-false _ _ _ (no-entry t places r.vci e)))
+
+  pub set_full : looked t places r.vci ≡ None → 32 ≤ t.count → Err RoutesFull ≡ setting_entry (entries_of t) r
+  set_full e l = sym (cond-false _ _ _ (le-ltb t.count 32 l)) ∙ sym (cond-false _ _ _ (no-entry t places r.vci e))

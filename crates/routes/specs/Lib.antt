@@ -1,3 +1,4 @@
 pub mod Fits
 pub mod Table
+pub mod Entries
 pub mod Map

@@ -1,25 +1,28 @@
 -- What the tables mean, a map from VCI for each input, and what a change of routes does to it.
-use Rattle.std.specs.Prelude.{◌≡◌, ℕ, ◌+◌, ◌-◌, ◌<◌, Bool, true, cond, ◌&&◌, is_some, Some, None, Ok, Err, Option, Result, ◌==◌, nat_lt, slice_index}
+use Rattle.std.specs.Prelude.{◌≡◌, ℕ, ◌+◌, ◌-◌, ◌<◌, Bool, true, cond, ◌&&◌, is_some, Some, None, Ok, Err, Option, Result, ◌==◌, nat_lt}
+use Rattle.std.specs.List.{slice_get}
 use Rattle.refusals.specs.declared.refusal.Refusal.{Refusal}
 use Rattle.refusals.specs.declared.refusal.Refusal.TheVariants.{PortBeyond, RoutesFull, NoSuchRoute}
 use Rattle.routes.specs.declared.route.Route.{Route}
+use Rattle.routes.specs.declared.table.Table.{Table}
 use Rattle.routes.specs.declared.tables.Routes.{Routes}
-use Rattle.routes.specs.declared.tables.changes.RefusedChange.{RefusedChange}
 use Rattle.routes.specs.Fits.{fits}
-use Rattle.routes.specs.Table.{place, route_at, changed}
+use Rattle.routes.specs.Table.{place, changed}
+use Rattle.routes.specs.Entries.{Entries, entries_of, no_entries}
 
 -- the route of each VCI at each input, and how many routes each input has
 pub record Tables : Type 0 where
   pub route : ℕ → ℕ → Option Route
   pub count : ℕ → ℕ
 
--- how many routes input i has
-abbrev pub count_at : Routes → ℕ → ℕ
-count_at t i = slice_index t.counts i
+-- the entries of an input; of an input that there is not, none
+abbrev pub of_input : Option Table → Entries
+of_input None = no_entries
+of_input (Some t) = entries_of t
 
 -- what the tables in memory mean
 abbrev pub tables_of : Routes → Tables
-tables_of t = record { route = route_at t.routes t.counts; count = count_at t }
+tables_of t = record { route = λ i. (of_input (slice_get t.inputs i)).route; count = λ i. (of_input (slice_get t.inputs i)).count }
 
 -- tables without a route
 abbrev pub empty : Tables
@@ -56,20 +59,20 @@ removing t ports i v =
     (Err PortBeyond)
 
 -- what a change answered: what the tables after it mean, or the refusal
-abbrev pub told : Result Routes RefusedChange → Result Tables Refusal
-told (Ok t) = Ok (tables_of t)
-told (Err e) = Err e.refusal
-
--- a refused change gives the tables back as they were
-abbrev pub KeptOf : Routes → Result Routes RefusedChange → Type 0
-KeptOf t (Ok u) = Unit {0}
-KeptOf t (Err e) = e.routes ≡ t
+abbrev pub told : {T V : Type 0} → (T → V) → Result (Unit {0}) Refusal → T → Result V Refusal
+told view (Ok x) t = Ok (view t)
+told view (Err e) t = Err e
 
 -- a route that is found fits the VCI, and its output is one of eight
 abbrev pub Fitting : ℕ → Option Route → Type 0
 Fitting v None = Unit {0}
 Fitting v (Some r) = (fits r v ≡ true) × (r.output < 8)
 
--- no two routes of an input fit one cell: two places with a fitting route are one place
+-- no two routes of a table fit one cell: two places with a fitting route are one place
+abbrev pub AloneIn : Option Table → Type 0
+AloneIn None = Unit {0}
+AloneIn (Some t) = (v a b : ℕ) → (a < t.count) × (b < t.count) × (fits (place t.routes a) v ≡ true) × (fits (place t.routes b) v ≡ true) → a ≡ b
+
+-- no two routes of an input fit one cell
 abbrev pub Alone : Routes → Type 0
-Alone t = (i v a b : ℕ) → (a < count_at t i) × (b < count_at t i) × (fits (place t.routes i a) v ≡ true) × (fits (place t.routes i b) v ≡ true) → a ≡ b
+Alone t = (i : ℕ) → AloneIn (slice_get t.inputs i)

@@ -2,8 +2,8 @@
 #![tactic(auto)]
 
 mod route;
+mod table;
 mod tables;
 
 pub use route::Route;
 pub use tables::Routes;
-pub use tables::changes::RefusedChange;

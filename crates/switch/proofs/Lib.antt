@@ -8,6 +8,7 @@ mod Notes
 mod Middle
 mod Inputs
 mod Arrivals
+mod Routing
 mod Starts
 mod Views
 mod Departures

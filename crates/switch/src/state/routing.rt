@@ -24,25 +24,13 @@ impl<A: Arbiter> Switch<A> {
             output,
             new_vci,
         };
-        match self.routes.set(self.ports.number(), input, route) {
-            Ok(routes) => {
-                self.routes = routes;
-                Ok(())
-            }
-            Err(refused) => Err(refused.refusal),
-        }
+        self.routes.set(self.ports.number(), input, route)
     }
 
     /// Removes the route that an input has for a VCI. Cells that wait are not touched.
     pub fn remove_route(&mut self, input: u8, vci: u16) -> Result<(), Refusal>
         ensures { RemovesRoute self.old input vci result self.new }
     {
-        match self.routes.remove(self.ports.number(), input, vci) {
-            Ok(routes) => {
-                self.routes = routes;
-                Ok(())
-            }
-            Err(refused) => Err(refused.refusal),
-        }
+        self.routes.remove(self.ports.number(), input, vci)
     }
 }

@@ -1,14 +1,7 @@
 use Rattle.std.proofs.Common.{refl, rules}
-use Rattle.routes.proofs.Outcomes.{remove-takes, remove-none}
+use Rattle.routes.proofs.Lifting.{remove-at}
 use Rattle.routes.proofs.tables.Routes.remove.Goals as goal
 
-pub returns-in-Some : goal.returns-in-Some
-returns-in-Some c =
-    record {
-      outcome = let e = remove-takes c.args.self c.without.result c.args.ports c.args.input c.in-Some.k c.args.vci (search rules) (search rules) (search rules) (search rules) c.without.ensures.map c.without.ensures.counted in search (rules, e);
-      kept = tt;
-    }
-
-pub returns-in-None : goal.returns-in-None
-returns-in-None c =
-    record { outcome = let e = remove-none c.args.self c.args.ports c.args.input c.args.vci (search rules) (search rules) in search (rules, e); kept = refl }
+pub returns-clause-outcome : goal.returns-clause-outcome
+returns-clause-outcome c =
+    remove-at c.args.self.now _ c.args.input c.index-self-input.result c.remove.new.self (search rules) refl c.remove.result c.args.ports c.args.vci (search rules) c.remove.ensures.outcome
