@@ -1,8 +1,17 @@
 -- One turn of the decoder.
-use Rattle.std.proofs.Common.{◌≡◌, ℕ, ◌+◌, ◌*◌, ◌<◌, ◌≤◌, true, false, cond, ◌&&◌, eqb, ltb, ◌⊎◌, List, [], ◌∷◌, ◌++◌, length, get_or, take, drop, set, Ok, Err, Result, sym, refl, ap, ◌∙◌, inl, inr, append_assoc, append-nil, arith}
-use Rattle.std.proofs.lemmas.List.{drop_more, drop_all, take_more_set}
-use Rattle.std.proofs.lemmas.Bool.{lt-ltb, le-ltb, eq-eqb, ne_eqb, cases_eq, and_from, and_left, and_right}
-use Rattle.lines.specs.Hex.{digit, is_digit, front, pairs, hex}
+use Rattle.std.proofs.Common.{◌≡◌, ℕ, ◌+◌, ◌-◌, ◌*◌, ◌<◌, ◌≤◌, true, false, cond, ◌&&◌, eqb, ltb, List, [], ◌∷◌, ◌++◌, length, Some, None, Ok, Err, Result, sym, refl, ap, ◌∙◌, ap₂, inl, inr, append_assoc, append-nil, arith}
+use Rattle.std.proofs.lemmas.List.{length-append}
+use Rattle.std.proofs.lemmas.Bool.{lt-ltb, le-ltb, ne_eqb, cases_eq, cases_Bool, and_right}
+use Rattle.lines.specs.Hex.{digit, is_digit, front, pairs, hex, value, past_space, first_pair}
+
+pub not-both : {T E : Type 0} (x : T) (r : E) → ◌≡◌ {A = Result T E} (Ok x) (Err r) → ⊥
+not-both x r e = let z : ◌≡◌ {A = ℕ} 0 1 = cc in omega arith
+
+pub same-value : {T E : Type 0} (x y : T) → ◌≡◌ {A = Result T E} (Ok x) (Ok y) → x ≡ y
+same-value x y e = cc
+
+pub same-error : {T E : Type 0} (x y : E) → ◌≡◌ {A = Result T E} (Err x) (Err y) → x ≡ y
+same-error x y e = cc
 
 -- what was decoded before goes before what is left
 abbrev pub before : List ℕ → Result (List ℕ) ℕ → Result (List ℕ) ℕ
@@ -57,9 +66,6 @@ none p = refl
 pub is_dig : (a : ℕ) → digit a ≤ 15 → is_digit a ≡ true
 is_dig a h = lt-ltb (digit a) 16 (omega arith)
 
-no_dig : (a : ℕ) → 15 < digit a → is_digit a ≡ false
-no_dig a h = le-ltb (digit a) 16 (omega arith)
-
 -- a space is no digit
 space : (a : ℕ) → digit a ≤ 15 → eqb a 32 ≡ false
 unfolding digit
@@ -68,69 +74,115 @@ space a h = elim (cases_eq a 32) [ inl e ↦ let z : digit a ≡ 16 = ap digit e
 pub from-digit : (n p a : ℕ) (rest : List ℕ) → digit a ≤ 15 → from n p (a ∷ rest) ≡ pairs p (a ∷ rest)
 from-digit n p a rest d = let e : (ltb 0 n && eqb a 32) ≡ false = and_right (ltb 0 n) (eqb a 32) (space a d) in rw e
 
-drop-one : (xs : List ℕ) (i : ℕ) → i + 1 < length xs → drop (i + 1) xs ≡ get_or xs (i + 1) 0 ∷ drop (i + 2) xs
-drop-one xs i h =
-    let e : i + 1 + 1 ≡ i + 2 = omega arith in
-    drop_more xs (i + 1) 0 h ∙ ap (λ (k : ℕ). get_or xs (i + 1) 0 ∷ drop k xs) e
+-- a digit by the value that the table has for it
+pub some-value : (b v : ℕ) → v ≡ digit b → v < 16 → Some v ≡ value b
+some-value b v e h = let d : is_digit b ≡ true = lt-ltb (digit b) 16 (omega arith) in rw d (ap Some e)
 
--- where a pair begins: at a digit, or past one space
-pub at-digit : (xs : List ℕ) (n i : ℕ) → i < length xs → digit (get_or xs i 0) ≤ 15 → from n i (drop i xs) ≡ pairs i (drop i xs)
-at-digit xs n i h d = rw (drop_more xs i 0 h) (from-digit n i (get_or xs i 0) (drop (i + 1) xs) d)
+pub no-value : (b v : ℕ) → v ≡ digit b → 16 ≤ v → None ≡ value b
+no-value b v e h = let d : is_digit b ≡ false = le-ltb (digit b) 16 (omega arith) in rw d refl
 
-pub past-space : (xs : List ℕ) (n i : ℕ) → i < length xs → 0 < n → get_or xs i 0 ≡ 32 → from n i (drop i xs) ≡ pairs (i + 1) (drop (i + 1) xs)
-past-space xs n i h z s =
-    let e : (ltb 0 n && eqb (get_or xs i 0) 32) ≡ true = and_from (ltb 0 n) (eqb (get_or xs i 0) 32) (lt-ltb 0 n z) (eq-eqb _ 32 s) in
-    rw (drop_more xs i 0 h, e)
+at-start : (p k : ℕ) → ◌≡◌ {A = Result (ℕ × List ℕ) ℕ} (Err 0) (Err k) → p ≡ p + k
+at-start p k e = let z : 0 ≡ k = same-error 0 k e in omega arith
 
-pub no-pair : (xs : List ℕ) (n i : ℕ) → i < length xs → 15 < digit (get_or xs i 0) → (n ≡ 0) ⊎ (get_or xs i 0 ≡ 32 → ⊥) → from n i (drop i xs) ≡ Err i
-no-pair xs n i h d w =
-    let e : (ltb 0 n && eqb (get_or xs i 0) 32) ≡ false
-    = elim w [ inl z ↦ and_left (ltb 0 n) (eqb (get_or xs i 0) 32) (le-ltb 0 n (omega arith)) | inr z ↦ and_right (ltb 0 n) (eqb (get_or xs i 0) 32) (ne_eqb _ 32 z) ] in
-    rw (drop_more xs i 0 h, e) (wrong i (get_or xs i 0) (drop (i + 1) xs) (no_dig _ d))
+-- the first pair tells how the pairs go on
+after-wrong : (p k : ℕ) (xs : List ℕ) → first_pair xs ≡ Err k → pairs p xs ≡ Err (p + k)
+after-wrong p k [] e = none p ∙ ap Err (at-start p k e)
+after-wrong p k (a ∷ []) e =
+    elim (cases_Bool (is_digit a)) [
+      | inl d ↦ no-low p a d ∙ ap (λ (j : ℕ). Err (p + j)) (same-error 1 k (rw d at e))
+      | inr d ↦ wrong p a [] d ∙ ap Err (at-start p k (rw d at e))
+    ]
+after-wrong p k (a ∷ b ∷ rest) e =
+    elim (cases_Bool (is_digit a)) [
+      | inl d ↦
+          elim (cases_Bool (is_digit b)) [
+            | inl f ↦ absurd (not-both _ k (rw (d, f) at e))
+            | inr f ↦ wrong-low p a b rest d f ∙ ap (λ (j : ℕ). Err (p + j)) (same-error 1 k (rw (d, f) at e))
+          ]
+      | inr d ↦ wrong p a (b ∷ rest) d ∙ ap Err (at-start p k (rw d at e))
+    ]
 
--- the ends of a pair
-pub ends-at-high : (xs : List ℕ) (i : ℕ) → i < length xs → 15 < digit (get_or xs i 0) → pairs i (drop i xs) ≡ Err i
-ends-at-high xs i h d = rw (drop_more xs i 0 h) (wrong i (get_or xs i 0) (drop (i + 1) xs) (no_dig _ d))
+record Begins (p n x : ℕ) (after xs : List ℕ) : Type 0 where
+  pub two : length xs ≡ length after + 2
+  pub pairs : pairs p xs ≡ front x (from (n + 1) (p + 2) after)
 
-pub ends-missing : (xs : List ℕ) (i : ℕ) → length xs ≤ i → pairs i (drop i xs) ≡ Err i
-ends-missing xs i h = rw (drop_all i xs h) (none i)
+after-pair : (p n x : ℕ) (after xs : List ℕ) → first_pair xs ≡ Ok (x, after) → Begins p n x after xs
+after-pair p n x after [] e = absurd (not-both _ 0 (sym e))
+after-pair p n x after (a ∷ []) e =
+    elim (cases_Bool (is_digit a)) [ inl d ↦ absurd (not-both _ 1 (sym (rw d at e))) | inr d ↦ absurd (not-both _ 0 (sym (rw d at e))) ]
+after-pair p n x after (a ∷ b ∷ rest) e =
+    elim (cases_Bool (is_digit a)) [
+      | inl d ↦
+          elim (cases_Bool (is_digit b)) [
+            | inl f ↦
+                let q : (16 * digit a + digit b, rest) ≡ (x, after) = same-value _ _ (rw (d, f) at e) in
+                let r : rest ≡ after = ap (λ (y : ℕ × List ℕ). y.1) q in
+                let l : length rest ≡ length after = ap length r in
+                record {
+                  two = omega arith;
+                  pairs = one-pair (n + 1) p a b rest (omega arith) d f ∙ ap₂ (λ (y : ℕ) (ys : List ℕ). front y (from (n + 1) (p + 2) ys)) (ap (λ (y : ℕ × List ℕ). y.0) q) r;
+                }
+            | inr f ↦ absurd (not-both _ 1 (sym (rw (d, f) at e)))
+          ]
+      | inr d ↦ absurd (not-both _ 0 (sym (rw d at e)))
+    ]
 
-pub ends-short : (xs : List ℕ) (i : ℕ) → i + 1 ≡ length xs → digit (get_or xs i 0) ≤ 15 → pairs i (drop i xs) ≡ Err (i + 1)
-ends-short xs i h d =
-    let l : i < length xs = omega arith in
-    let z : drop (i + 1) xs ≡ [] = drop_all (i + 1) xs (omega arith) in
-    rw (drop_more xs i 0 l, z) (no-low i (get_or xs i 0) (is_dig _ d))
+-- where a pair begins: past a space, if one pair or more came before
+pub record AtPair (n p : ℕ) (rest pair : List ℕ) : Type 0 where
+  pub short : length pair ≤ length rest
+  pub left : from n p rest ≡ pairs (p + (length rest - length pair)) pair
 
-pub ends-at-low : (xs : List ℕ) (i : ℕ) → i + 1 < length xs → digit (get_or xs i 0) ≤ 15 → 15 < digit (get_or xs (i + 1) 0) → pairs i (drop i xs) ≡ Err (i + 1)
-ends-at-low xs i h d e =
-    let l : i < length xs = omega arith in
-    rw (drop_more xs i 0 l, drop-one xs i h) (wrong-low i (get_or xs i 0) (get_or xs (i + 1) 0) (drop (i + 2) xs) (is_dig _ d) (no_dig _ e))
+pub at-first : (n p : ℕ) (rest : List ℕ) → n ≡ 0 → 0 < length rest → AtPair n p rest rest
+at-first n p [] z h = absurd (omega arith)
+at-first n p (c ∷ rest) z h =
+    let l : ltb 0 n ≡ false = le-ltb 0 n (omega arith) in
+    let q : p ≡ p + (length (c ∷ rest) - length (c ∷ rest)) = omega arith in
+    record { short = omega arith; left = rw l (ap (λ (k : ℕ). pairs k (c ∷ rest)) q) }
 
--- one pair more
-goes_on : (xs : List ℕ) (n i : ℕ) → 0 < n → i + 1 < length xs → digit (get_or xs i 0) ≤ 15 → digit (get_or xs (i + 1) 0) ≤ 15 →
-    pairs i (drop i xs) ≡ front (16 * digit (get_or xs i 0) + digit (get_or xs (i + 1) 0)) (from n (i + 2) (drop (i + 2) xs))
-goes_on xs n i z h d e =
-    let l : i < length xs = omega arith in
-    let t : drop i xs ≡ get_or xs i 0 ∷ get_or xs (i + 1) 0 ∷ drop (i + 2) xs = drop_more xs i 0 l ∙ ap (λ (zs : List ℕ). get_or xs i 0 ∷ zs) (drop-one xs i h) in
-    rw t (one-pair n i (get_or xs i 0) (get_or xs (i + 1) 0) (drop (i + 2) xs) z (is_dig _ d) (is_dig _ e))
+pub at-later : (n p : ℕ) (rest : List ℕ) → 0 < n → 0 < length rest → AtPair n p rest (past_space rest)
+at-later n p [] z h = absurd (omega arith)
+at-later n p (c ∷ rest) z h =
+    let l : ltb 0 n ≡ true = lt-ltb 0 n z in
+    elim (cases_Bool (eqb c 32)) [
+      | inl e ↦
+          let q : p + 1 ≡ p + (length (c ∷ rest) - length rest) = omega arith in
+          rw e record { short = omega arith; left = rw (l, e) (ap (λ (k : ℕ). pairs k rest) q) }
+      | inr e ↦
+          let q : p ≡ p + (length (c ∷ rest) - length (c ∷ rest)) = omega arith in
+          rw e record { short = omega arith; left = rw (l, e) (ap (λ (k : ℕ). pairs k (c ∷ rest)) q) }
+    ]
 
-pub turn : (xs bytes : List ℕ) (n i b : ℕ) → i + 1 < length xs → digit (get_or xs i 0) ≤ 15 → digit (get_or xs (i + 1) 0) ≤ 15 →
-    b ≡ 16 * digit (get_or xs i 0) + digit (get_or xs (i + 1) 0) → n < length bytes →
-    before (take (n + 1) (set bytes n b)) (from (n + 1) (i + 2) (drop (i + 2) xs)) ≡ before (take n bytes) (pairs i (drop i xs))
-turn xs bytes n i b h d e w m =
-    let r : Result (List ℕ) ℕ = from (n + 1) (i + 2) (drop (i + 2) xs) in
-    ap (λ (zs : List ℕ). before zs r) (take_more_set bytes n b m)
-    ∙ sym (before-front (take n bytes) b r)
-    ∙ ap (λ (z : ℕ). before (take n bytes) (front z r)) w
-    ∙ ap (before (take n bytes)) (sym (goes_on xs (n + 1) i (omega arith) h d e))
+-- what was decoded, and what is left of the line
+pub record Stage (line bytes rest : List ℕ) : Type 0 where
+  pub room : 2 * length bytes + length rest ≤ length line
+  pub left : before bytes (from (length bytes) (length line - length rest) rest) ≡ hex line
 
-pub whole : (xs bytes : List ℕ) (n i : ℕ) → length xs ≤ i → ◌≡◌ {A = Result (List ℕ) ℕ} (Ok (take n bytes)) (before (take n bytes) (from n i (drop i xs)))
-whole xs bytes n i h = rw (drop_all i xs h) (ap Ok (sym (append-nil (take n bytes))))
+pub stage-first : (line : List ℕ) → Stage line [] line
+stage-first line =
+    let z : length line - length line ≡ 0 = omega arith in
+    record { room = omega arith; left = ap (λ (k : ℕ). before [] (from 0 k line)) z ∙ start line }
 
--- a pair's first digit has been read at i
-pub record Here (xs bytes : List ℕ) (n i high : ℕ) : Type 0 where
-  pub place : i < length xs
-  pub far : 2 * n ≤ i
-  pub is : high ≡ digit (get_or xs i 0)
-  pub small : high ≤ 15
-  pub left : before (take n bytes) (pairs i (drop i xs)) ≡ hex xs
+pub stage-last : (line bytes rest : List ℕ) → length rest ≡ 0 → Stage line bytes rest → hex line ≡ Ok bytes
+stage-last line bytes [] h s = sym s.left ∙ ap Ok (append-nil bytes)
+stage-last line bytes (c ∷ rest) h s = absurd (omega arith)
+
+module _ (line bytes rest pair : List ℕ) where
+  pub stage-next : (x : ℕ) (after : List ℕ) → Stage line bytes rest → AtPair (length bytes) (length line - length rest) rest pair → first_pair pair ≡ Ok (x, after) → Stage line (bytes ++ x ∷ []) after
+  stage-next x after s a e =
+      let p : ℕ = length line - length rest + (length rest - length pair) in
+      let b = after-pair p (length bytes) x after pair e in
+      let n : length (bytes ++ x ∷ []) ≡ length bytes + 1 = length-append bytes (x ∷ []) in
+      let q : length line - length after ≡ p + 2 = omega (arith, s.room, a.short, b.two) in
+      record {
+        room = omega (arith, s.room, a.short, b.two, n);
+        left = ap₂ (λ (k i : ℕ). before (bytes ++ x ∷ []) (from k i after)) n q
+            ∙ sym (before-front bytes x (from (length bytes + 1) (p + 2) after))
+            ∙ ap (before bytes) (sym b.pairs ∙ sym a.left)
+            ∙ s.left;
+      }
+
+  pub stage-wrong : (k : ℕ) → Stage line bytes rest → AtPair (length bytes) (length line - length rest) rest pair → first_pair pair ≡ Err k → hex line ≡ Err (length line - length pair + k)
+  stage-wrong k s a e =
+      let p : ℕ = length line - length rest + (length rest - length pair) in
+      let q : p ≡ length line - length pair = omega (arith, s.room, a.short) in
+      sym s.left ∙ ap (before bytes) (a.left ∙ after-wrong p k pair e) ∙ ap (λ (i : ℕ). Err (i + k)) q

@@ -4,7 +4,7 @@ use Rattle.std.proofs.lemmas.Bool.{ltb-true, eqb-true, cases_Bool}
 use Rattle.lines.specs.Hex.{digit, is_digit, front, pair, pairs}
 use Rattle.lines.specs.Spelled.{Pairs, one, next, spaced, pairs_of, Begins, FirstWrong}
 use Rattle.lines.proofs.Decoding.{wrong, wrong-low}
-use Rattle.lines.proofs.Readings.{never, one-reading}
+use Rattle.lines.proofs.Readings.{never, one_reading}
 
 record Place (q : ℕ) (line : List ℕ) (p : ℕ) : Type 0 where
   pub far : ℕ
@@ -124,9 +124,9 @@ place q (a ∷ b ∷ c ∷ rest) p e =
           ]
     ]
 
-pub first-wrong : FirstWrong
-first-wrong [] p e = absurd (never p [] (sym e))
-first-wrong (a ∷ line) p e =
+pub first_wrong : FirstWrong
+first_wrong [] p e = absurd (never p [] (sym e))
+first_wrong (a ∷ line) p e =
     let w = place 0 (a ∷ line) p e in
     let z : w.far ≡ p = omega arith in
     let s : suc w.far ≡ p + 1 = omega arith in (
@@ -137,7 +137,7 @@ first-wrong (a ∷ line) p e =
           omega arith,
           λ b.
               let b2 : Begins (take (suc w.far) (a ∷ line)) = subst (λ (k : ℕ). Begins (take k (a ∷ line))) (sym s) b in
-              let r = one-reading.0 (take (suc w.far) (a ∷ line) ++ b2.0) b2.1.0 b2.1.1 in
+              let r = one_reading.0 (take (suc w.far) (a ∷ line) ++ b2.0) b2.1.0 b2.1.1 in
               never p b2.1.0 (sym (h.1 b2.0) ∙ r),
         )
       ],

@@ -74,5 +74,5 @@ back : (line xs : List ℕ) → hex line ≡ Ok xs → Spelled line xs
 back [] xs e = subst (Spelled []) (same [] xs e) nothing
 back (a ∷ line) xs e = pairs_of (a ∷ line) xs (unread 0 (a ∷ line) xs e)
 
-pub one-reading : OneReading
-one-reading = (there, back)
+pub one_reading : OneReading
+one_reading = (there, back)

@@ -10,11 +10,12 @@ use Rattle.lines.specs.declared.frame.Frame.TheVariants.{Start, Route, Cell, Clo
 use Rattle.lines.specs.declared.frame.ArbiterKind.{ArbiterKind}
 use Rattle.lines.specs.declared.frame.ArbiterKind.TheVariants.{Diagonal, Ripple}
 use Rattle.lines.specs.Hex.{digit, hex}
-use Rattle.lines.specs.Frames.{frame_of, frame_in, spelled, kind_of, code_of, with_kind, two, four}
+use Rattle.lines.specs.Frames.{frame_of, frame_in, spelled, decoded, kind_of, code_of, with_kind, two, four}
 use Rattle.lines.specs.Spelled.{Pairs, one, next, spaced, Spelled, nothing, pairs_of}
 use Rattle.lines.specs.Spelling.{upper, spell, bytes_of, canonical, high-two, high-four, Sound, Spells, UpperDigit, AllUpper, FramesSpelled}
+use Rattle.lines.proofs.Decoding.{not-both, same-value, same-error}
 use Rattle.lines.proofs.Back.{Bytes, bytes-by-place, hex-spell, length-spell, four-back, two_back, two-split, four-split}
-use Rattle.lines.proofs.Readings.{one-reading}
+use Rattle.lines.proofs.Readings.{one_reading}
 
 false-not-true : false ≡ true → ⊥
 false-not-true e = let z : ◌≡◌ {A = ℕ} 1 0 = ap (λ b. cond b 0 1) e in omega arith
@@ -56,22 +57,24 @@ bytes_read (Cell input cell) s =
     rw (z, e) (ap (λ (xs : List ℕ). Ok (Cell input xs)) (take_all 53 cell (omega arith)))
 bytes_read Close s = refl
 
-pub long-refused : (line : List ℕ) → 200 < length line → frame_of line ≡ Err LineTooLong
+pub long_refused : (line : List ℕ) → 200 < length line → frame_of line ≡ Err LineTooLong
 unfolding frame_of
-long-refused line l = let s : ltb 200 (length line) ≡ true = lt-ltb 200 _ l in rw s
+long_refused line l = let s : ltb 200 (length line) ≡ true = lt-ltb 200 _ l in rw s
 
-pub short-spelled : (line : List ℕ) → length line ≤ 200 → frame_of line ≡ spelled (hex line)
+pub short_spelled : (line : List ℕ) → length line ≤ 200 → frame_of line ≡ spelled (hex line)
 unfolding frame_of
-short-spelled line l = let s : ltb 200 (length line) ≡ false = le-ltb 200 _ l in rw s
+short_spelled line l = let s : ltb 200 (length line) ≡ false = le-ltb 200 _ l in rw s
+
+pub decoded-bytes : (r : Result (List ℕ) ℕ) (xs : List ℕ) → decoded r ≡ Ok xs → spelled r ≡ frame_in xs
+decoded-bytes (Ok ys) xs e = ap frame_in (same-value ys xs e)
+decoded-bytes (Err p) xs e = absurd (not-both xs (WrongDigit p) (sym e))
+
+pub decoded-wrong : (r : Result (List ℕ) ℕ) (k : Refusal) → decoded r ≡ Err k → spelled r ≡ Err k
+decoded-wrong (Ok ys) k e = absurd (not-both ys k e)
+decoded-wrong (Err p) k e = ap Err (same-error (WrongDigit p) k e)
 
 reads : (line : List ℕ) (f : Frame) → Spells line f → frame_of line ≡ Ok f
-reads line f s = short-spelled line s.2 ∙ ap spelled (one-reading.0 line (bytes_of f) s.0) ∙ bytes_read f s.1
-
-not-both : {T E : Type 0} (x : T) (r : E) → ◌≡◌ {A = Result T E} (Ok x) (Err r) → ⊥
-not-both x r e = let z : ◌≡◌ {A = ℕ} 0 1 = cc in omega arith
-
-same-value : {T E : Type 0} (x y : T) → ◌≡◌ {A = Result T E} (Ok x) (Ok y) → x ≡ y
-same-value x y e = cc
+reads line f s = short_spelled line s.2 ∙ ap spelled (one_reading.0 line (bytes_of f) s.0) ∙ bytes_read f s.1
 
 -- what pairs of digits spell are bytes
 pairs-bytes : (line xs : List ℕ) → Pairs line xs → Bytes xs
@@ -225,10 +228,10 @@ spelled-ok line f (Err p) h e = absurd (not-both f (WrongDigit p) (sym e))
 read_only : (line : List ℕ) (f : Frame) → frame_of line ≡ Ok f → Spells line f
 read_only line f e =
     elim (cases_lt 200 (length line)) [
-      | inl l ↦ absurd (not-both f LineTooLong (sym e ∙ long-refused line l))
+      | inl l ↦ absurd (not-both f LineTooLong (sym e ∙ long_refused line l))
       | inr l ↦
-          let q = spelled-ok line f (hex line) refl (sym (short-spelled line l) ∙ e) in
-          let s : Spelled line q.0 = one-reading.1 line q.0 q.1.0 in
+          let q = spelled-ok line f (hex line) refl (sym (short_spelled line l) ∙ e) in
+          let s : Spelled line q.0 = one_reading.1 line q.0 q.1.0 in
           let h = has-bytes q.0 f (spelled-bytes line q.0 s) q.1.1 in
           (subst (Spelled line) h.bytes s, h.sound, l)
     ]
@@ -252,7 +255,7 @@ has-spelling f s =
     let h = frame-bytes f s in
     let n = few_bytes f s in
     let l = length-spell (bytes_of f) in
-    (all_upper (bytes_of f) h, (one-reading.1 (canonical f) (bytes_of f) (hex-spell (bytes_of f) h), s, omega arith))
+    (all_upper (bytes_of f) h, (one_reading.1 (canonical f) (bytes_of f) (hex-spell (bytes_of f) h), s, omega arith))
 
 upper-of-digit : (b : ℕ) → UpperDigit b → upper (digit b) ≡ b
 unfolding upper digit
@@ -294,8 +297,8 @@ unfolding spell
 one-spelled line xs u nothing = refl
 one-spelled line xs u (pairs_of l ys r) = one-upper l ys u r
 
-pub frames-spelled : FramesSpelled
-frames-spelled =
+pub frames_spelled : FramesSpelled
+frames_spelled =
     record {
       reads = reads;
       read_only = read_only;

@@ -60,6 +60,11 @@ frame_in xs =
     (cond (slice_index xs 0 == 3) (close_in xs)
     (Err UnknownKind)))))
 
+-- the place of a wrong or missing digit makes a refusal
+abbrev pub decoded : Result (List ℕ) ℕ → Result (List ℕ) Refusal
+decoded (Ok xs) = Ok xs
+decoded (Err place) = Err (WrongDigit place)
+
 abbrev pub spelled : Result (List ℕ) ℕ → Result Frame Refusal
 spelled (Ok xs) = frame_in xs
 spelled (Err place) = Err (WrongDigit place)

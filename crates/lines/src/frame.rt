@@ -12,9 +12,6 @@ use std::fmt;
 /// The longest line, in bytes, without the 0A that ends it.
 pub const LONGEST: usize = 200;
 
-/// The most bytes that a line can spell.
-const MOST: usize = 100;
-
 /// The kinds of frames: the first byte that a line spells.
 const START: u8 = 0x00;
 
@@ -156,6 +153,7 @@ fn frame_in(bytes: &[u8]) -> Result<Frame, Refusal>
 }
 
 /// The frame that a line spells, or why it spells none. The line comes without the 0A that ends it.
+#[tactic(auto, using(crate::proofs::Spellings::frames_spelled, crate::proofs::Readings::one_reading, crate::proofs::Places::first_wrong))]
 pub fn frame_of(line: &[u8]) -> Result<Frame, Refusal>
     ensures answer { result ≡ frame_of line.now }
     ensures frames { FramesSpelled }
@@ -165,9 +163,6 @@ pub fn frame_of(line: &[u8]) -> Result<Frame, Refusal>
     if line.len() > LONGEST {
         return Err(Refusal::LineTooLong);
     }
-    let mut bytes = [0u8; MOST];
-    match decode(line, &mut bytes) {
-        Err(place) => Err(Refusal::WrongDigit { place }),
-        Ok(n) => frame_in(&bytes[0..n]),
-    }
+    let bytes = decode(line)?;
+    frame_in(bytes.as_slice())
 }

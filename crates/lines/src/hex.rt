@@ -1,7 +1,14 @@
 //! Pairs of hexadecimal digits read as bytes.
 
-ghost use Rattle.std.specs.Prelude.{◌≡◌, ◌≤◌, length, IfOk};
-ghost use Rattle.lines.specs.Hex.{digit, hex, written};
+ghost use Rattle.std.specs.Prelude.{◌≡◌, ◌≤◌, length, IfErr, IfOk};
+ghost use Rattle.lines.specs.Hex.{first_pair, hex, past_space, value};
+ghost use Rattle.lines.specs.Frames.{decoded};
+
+use arrayvec::ArrayVec;
+use refusals::Refusal;
+
+/// The most bytes that a line can spell.
+const MOST: usize = 100;
 
 /// What may stand between two pairs.
 const SPACE: u8 = 0x20;
@@ -25,46 +32,64 @@ const VALUES: &[u8; 256] = b"\
     \x10\x10\x10\x10\x10\x10\x10\x10\x10\x10\x10\x10\x10\x10\x10\x10\
     \x10\x10\x10\x10\x10\x10\x10\x10\x10\x10\x10\x10\x10\x10\x10\x10";
 
-/// The value of a digit, or 16.
-fn value(b: u8) -> u8
-    ensures { result ≡ digit b }
+/// The value of a digit.
+fn value(b: u8) -> Option<u8>
+    ensures { result ≡ value b }
 {
-    VALUES[b as usize]
+    let value = VALUES[b as usize];
+    if value < 16 { Some(value) } else { None }
 }
 
-/// The bytes that the line spells, into `bytes`: how many, or the place of the first digit wrong or missing.
-pub(crate) fn decode(line: &[u8], bytes: &mut [u8; 100]) -> Result<usize, usize>
-    requires { length line.now ≤ 200 }
-    ensures says { written bytes.new result ≡ hex line.now }
-    ensures fits { IfOk result (λ n. n ≤ 100) }
+/// The text without a space that it begins with.
+fn past_space(text: &[u8]) -> &[u8]
+    ensures { result.now ≡ past_space text.now }
 {
-    let mut n = 0;
-    let mut i = 0;
-    while i < line.len() {
-        let mut high = value(line[i]);
-        if high > 15 {
-            if n == 0 || line[i] != SPACE {
-                return Err(i);
-            }
-            i += 1;
-            if i == line.len() {
-                return Err(i);
-            }
-            high = value(line[i]);
-            if high > 15 {
-                return Err(i);
-            }
-        }
-        if i + 1 == line.len() {
-            return Err(i + 1);
-        }
-        let low = value(line[i + 1]);
-        if low > 15 {
-            return Err(i + 1);
-        }
-        bytes[n] = 16 * high + low;
-        n += 1;
-        i += 2;
+    match text {
+        [SPACE, after @ ..] => after,
+        _ => text,
     }
-    Ok(n)
+}
+
+/// The byte that the first two digits spell, and what follows them; or the place of the first of them that is wrong or missing.
+fn first_pair(text: &[u8]) -> Result<(u8, &[u8]), usize>
+    ensures spelled { IfOk result (λ pair. first_pair text.now ≡ Ok (pair.0, pair.1.now)) }
+    ensures wrong { IfErr result (λ place. first_pair text.now ≡ Err place) }
+{
+    let [high, after @ ..] = text else {
+        return Err(0);
+    };
+    let high = value(*high).ok_or(0usize)?;
+    let [low, after @ ..] = after else {
+        return Err(1);
+    };
+    let low = value(*low).ok_or(1usize)?;
+    Ok((16 * high + low, after))
+}
+
+/// The bytes that the line spells, or a refusal with the place of the first digit that is wrong or missing.
+pub(crate) fn decode(line: &[u8]) -> Result<ArrayVec<u8, MOST>, Refusal>
+    requires { length line.now ≤ 200 }
+    ensures bytes { IfOk result (λ bytes. decoded (hex line.now) ≡ Ok bytes.items) }
+    ensures wrong { IfErr result (λ refusal. decoded (hex line.now) ≡ Err refusal) }
+{
+    let mut bytes = ArrayVec::new();
+    let mut rest = line;
+    while !rest.is_empty() {
+        let pair = if bytes.is_empty() {
+            rest
+        } else {
+            past_space(rest)
+        };
+        match first_pair(pair) {
+            Ok((byte, after)) => {
+                bytes.push(byte);
+                rest = after;
+            }
+            Err(right) => {
+                let place = line.len() - pair.len() + right;
+                return Err(Refusal::WrongDigit { place });
+            }
+        }
+    }
+    Ok(bytes)
 }

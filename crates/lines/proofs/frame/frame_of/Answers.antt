@@ -1,32 +1,20 @@
-use Rattle.std.proofs.Common.{ℕ, take, sym, ap, ◌∙◌, arith}
-use native.Mathlib.Nat.{sub-zero}
-use Rattle.lines.specs.Frames.{spelled, frame_in}
-use Rattle.lines.proofs.Spellings.{frames-spelled, long-refused, short-spelled}
-use Rattle.lines.proofs.Readings.{one-reading}
-use Rattle.lines.proofs.Places.{first-wrong}
+use Rattle.std.proofs.Common.{sym, ap, ◌∙◌, arith, rules}
+use Rattle.lines.specs.Hex.{hex}
+use Rattle.lines.specs.Frames.{frame_in}
+use Rattle.lines.proofs.Spellings.{long_refused, short_spelled, decoded-bytes, decoded-wrong}
+use Rattle.lines.proofs.Places.{first_wrong}
 use Rattle.lines.proofs.frame.frame_of.Goals as goal
 
-pub returns-then-line-gt-LONGEST : goal.returns-then-line-gt-LONGEST
-returns-then-line-gt-LONGEST c =
-    record { answer = sym (long-refused c.args.line.now (omega arith)); frames = frames-spelled; reading = one-reading; places = first-wrong }
+pub returns-then-line-gt-LONGEST-clause-answer : goal.returns-then-line-gt-LONGEST-clause-answer
+returns-then-line-gt-LONGEST-clause-answer c = sym (long_refused c.args.line.now (omega arith))
 
-pub returns-in-Err : goal.returns-in-Err
-returns-in-Err c =
-    record {
-      answer = ap spelled c.in-Err.ensures.says ∙ sym (short-spelled c.args.line.now (omega arith));
-      frames = frames-spelled;
-      reading = one-reading;
-      places = first-wrong;
-    }
+pub returns-in_err-bytes-clause-answer : goal.returns-in_err-bytes-clause-answer
+returns-in_err-bytes-clause-answer c =
+    search rules ∙ sym (short_spelled c.args.line.now (omega arith) ∙ decoded-wrong (hex c.args.line.now) c.in_err-bytes.field-0.0 c.in_err-bytes.ensures.wrong)
 
-pub returns-in-Ok : goal.returns-in-Ok
-returns-in-Ok c =
-    record {
-      answer = c.frame_in.ensures
-          ∙ ap (λ (k : ℕ). frame_in (take k c.decode.new.bytes)) (sub-zero c.in-Ok.n)
-          ∙ ap spelled c.in-Ok.ensures.says
-          ∙ sym (short-spelled c.args.line.now (omega arith));
-      frames = frames-spelled;
-      reading = one-reading;
-      places = first-wrong;
-    }
+pub returns-clause-answer : goal.returns-clause-answer
+returns-clause-answer c =
+    c.frame_in.ensures ∙ ap frame_in c.as_slice.ensures.value ∙ sym (short_spelled c.args.line.now (omega arith) ∙ decoded-bytes (hex c.args.line.now) _ c.in_ok-bytes.ensures.bytes)
+
+pub returns-clause-places : goal.returns-clause-places
+returns-clause-places c = first_wrong

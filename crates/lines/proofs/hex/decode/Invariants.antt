@@ -1,10 +1,9 @@
-use Rattle.std.proofs.Common.{◌≡◌, ◌-◌, ◌*◌, ◌≤◌, length, take, drop}
-use Rattle.lines.specs.Hex.{hex}
-use Rattle.lines.proofs.Decoding.{before, from}
+use Rattle.std.proofs.Common.{length}
+use Rattle.lines.proofs.Decoding.{Stage}
 use Rattle.lines.proofs.hex.decode.Given as goal
 
-abbrev pub invariant-loop-i : goal.invariant-loop-i
-invariant-loop-i l = (2 * l.n ≤ l.i) × (l.i ≤ length l.line) × (length l.bytes ≡ 100) × (before (take l.n l.bytes) (from l.n l.i (drop l.i l.line)) ≡ hex l.line)
+abbrev pub invariant-loop-rest : goal.invariant-loop-rest
+invariant-loop-rest l = Stage l.line l.bytes.items l.rest
 
-abbrev pub decreases-loop-i : goal.decreases-loop-i
-decreases-loop-i l = length l.line - l.i
+abbrev pub decreases-loop-rest : goal.decreases-loop-rest
+decreases-loop-rest l = length l.rest
