@@ -1,12 +1,11 @@
 //! What is done with the queues.
 
-ghost use Rattle.std.specs.Prelude.{◌≡◌, ◌<◌, length, IfOk, Some};
+ghost use Rattle.std.specs.Prelude.{◌≡◌, ◌<◌, length, IfOk};
 ghost use Rattle.queues.specs.Calls.{fits, head_call, join_call, len_call, outcome, read_call, take_call};
 ghost use Rattle.queues.specs.Moves.{Appends, Heads, Releases};
 ghost use Rattle.queues.specs.Queue.{Checks};
 ghost use Rattle.queues.specs.Queues.{Starts, blocks_of, unused, view};
 ghost use Rattle.queues.specs.Runs.{FirstInFirstOut};
-ghost use Rattle.std.specs.List.{slice_get};
 
 use super::Links;
 use crate::block_list::BlockList;
@@ -24,14 +23,6 @@ fn check(own: usize, blocks: usize, queue: usize) -> Result<Queue, QueueRefusal>
     } else {
         Err(QueueRefusal::BlockCount)
     }
-}
-
-/// What a block of the slice holds.
-fn contents<T: Copy>(blocks: &[T], block: usize) -> T
-    requires { block < length blocks.now }
-    ensures { slice_get blocks.now block ≡ Some result }
-{
-    blocks[block]
 }
 
 impl<const B: usize> Links<B> {
@@ -145,7 +136,7 @@ impl<const B: usize> Links<B> {
     {
         let queue = check(B, blocks.len(), queue)?;
         let head = self.first(queue).ok_or(QueueRefusal::Empty)?;
-        Ok(contents(blocks, head))
+        Ok(blocks[head])
     }
 
     /// Takes the element at the head out of the queue. Its block is the last of the free ones then, and keeps its
@@ -155,6 +146,6 @@ impl<const B: usize> Links<B> {
     {
         let queue = check(B, blocks.len(), queue)?;
         let block = self.release(queue).ok_or(QueueRefusal::Empty)?;
-        Ok(contents(blocks, block))
+        Ok(blocks[block])
     }
 }
