@@ -10,7 +10,7 @@ use Rattle.pairs.specs.Tables.{holds, size, total}
 use Rattle.pairs.proofs.Bits.{digit_lt, word-is}
 use Rattle.pairs.proofs.Tables.{bit-held, held_below}
 
-total-ext : (n : ℕ) (f g : ℕ → ℕ) → ((k : ℕ) → k < n → f k ≡ g k) → total n f ≡ total n g
+pub total-ext : (n : ℕ) (f g : ℕ → ℕ) → ((k : ℕ) → k < n → f k ≡ g k) → total n f ≡ total n g
 unfolding total
 total-ext zero f g h = refl
 total-ext (suc n) f g h = ap₂ ◌+◌ (total-ext n f g (λ k l. h k (omega arith))) (h n (omega arith))
@@ -24,6 +24,15 @@ total-add : (m n : ℕ) (f : ℕ → ℕ) → total (m + n) f ≡ total m f + to
 unfolding total
 total-add m zero f = ap (λ (k : ℕ). total k f) (add-zero m) ∙ sym (add-zero (total m f))
 total-add m (suc n) f = ap (λ (k : ℕ). total k f) (add-suc m n) ∙ omega (arith, total-add m n f)
+
+-- what adds nothing from n on
+pub total-short : (n m : ℕ) (f : ℕ → ℕ) → n ≤ m → ((k : ℕ) → n ≤ k → f k ≡ 0) → total m f ≡ total n f
+unfolding total
+total-short n zero f l none = let e : zero ≡ n = omega arith in ap (λ (k : ℕ). total k f) e
+total-short n (suc m) f l none = elim (cases_eq (suc m) n) [
+  | inl e ↦ ap (λ (k : ℕ). total k f) e
+  | inr e ↦ ap₂ ◌+◌ (total-short n m f (omega arith) none) (none m (omega arith)) ∙ add-zero (total n f)
+]
 
 -- row after row
 total-rows : (n : ℕ) (F : ℕ → ℕ → ℕ) → total (n * 8) (λ k. F (k / 8) (k % 8)) ≡ total n (λ i. total 8 (F i))

@@ -1,6 +1,5 @@
 -- The pairs of a table in their order, the first taken out.
-use Rattle.std.proofs.Common.{◌≡◌, ℕ, zero, suc, ◌*◌, ◌<◌, ◌≤◌, Bool, true, false, cond, not, ◌&&◌, eqb, ◌⊎◌, List, [], ◌∷◌, ◌++◌, length, Some, None, sym, refl, ap, ◌∙◌, ap₂, inl, inr, arith}
-use Rattle.std.proofs.lemmas.List.{length-append}
+use Rattle.std.proofs.Common.{◌≡◌, ℕ, zero, suc, ◌<◌, ◌≤◌, Bool, true, false, cond, not, ◌&&◌, eqb, ◌⊎◌, List, [], ◌∷◌, ◌++◌, Some, None, sym, refl, ap, ◌∙◌, ap₂, inl, inr, arith}
 use Rattle.std.proofs.lemmas.Bool.{eq-eqb, ne_eqb, cases_eq, cases_lt, and_parts}
 use Rattle.pairs.specs.declared.table.Table.{Table}
 use Rattle.pairs.specs.Tables.{holds, table_of, dropped, First}
@@ -94,19 +93,3 @@ pub within-dropped : (n : ℕ) (t u : Table) (x : ℕ × ℕ) → n ≤ 8 → u 
 within-dropped n t u x few e w y h =
     let l = held_below u y.0 y.1 h in
     w y (and_parts (holds t y.0 y.1) (not (eqb y.0 x.0 && eqb y.1 x.1)) (sym (held u (dropped (holds t) x.0 x.1) e y.0 y.1 l.0 l.1) ∙ h)).0
-
-row-most : (G : ℕ → ℕ → Bool) (i k : ℕ) → length (row G i k) ≤ k
-row-most G i zero = omega arith
-row-most G i (suc k) = omega (arith, row-most G i k, length-append (row G i k) (cond (G i k) ((i, k) ∷ []) []), at_most (G i k))
-  where
-    at_most : (b : Bool) → length (cond {A = List (ℕ × ℕ)} b ((i, k) ∷ []) []) ≤ 1
-    at_most true = omega arith
-    at_most false = omega arith
-
-rows-most : (G : ℕ → ℕ → Bool) (n k : ℕ) → n ≤ 8 → length (rows G n k) ≤ k * 8
-rows-most G n zero l = omega arith
-rows-most G n (suc k) l = omega (arith, rows-most G n k l, row-most G k n, length-append (rows G n k) (row G k n))
-
--- there are at most 64 pairs
-pub pairs-most : (n : ℕ) (t : Table) → n ≤ 8 → length (pairs n t) ≤ 64
-pairs-most n t l = omega (arith, rows-most (holds t) n n l)

@@ -1,5 +1,6 @@
 mod PortSets
 mod Firsts
+mod Sizes
 mod Requests
 mod Decisions
 mod Errors

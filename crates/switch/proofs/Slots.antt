@@ -1,5 +1,5 @@
 -- A slot opened, decided and closed, by the facts of the code.
-use Rattle.std.proofs.Common.{◌≡◌, ℕ, ◌+◌, ◌≤◌, Bool, false, not, ◌&&◌, eqb, ltb, List, [], ◌∷◌, sym, ap, ◌∙◌, arith}
+use Rattle.std.proofs.Common.{◌≡◌, ℕ, ◌+◌, ◌≤◌, Bool, true, false, not, ◌&&◌, eqb, ltb, [], ◌∷◌, sym, ap, ◌∙◌, arith}
 use Rattle.std.proofs.lemmas.Bool.{le-ltb, and_parts, not-false, eqb-true}
 use Rattle.refusals.specs.declared.refusal.Refusal.TheVariants.{SlotOpen, NoSlotNumber, WrongTicket, GrantsUnsent}
 use Rattle.law.specs.declared.stage.Stage.{Stage}
@@ -25,13 +25,13 @@ of-slot v x t e =
     omega (arith, same)
 
 module _ {A : Type 0} (v : View A) (m : Memory) (t : Ticket) (fits : wrong v Sending t ≡ false) where
-  pub closes : v.slot.grants ≡ []
+  pub closes : is_empty v.slot.grants ≡ true
       → close_call v m t ≡ done (record { slot = t.slot; grants = v.slot.granted })
       (with_slot v (record { next = v.slot.next; stage = Closed; used = v.slot.used; grants = v.slot.grants; granted = v.slot.granted; sent = v.slot.sent })) m
   closes none =
-      passes ((WrongTicket, wrong v Sending t) ∷ (GrantsUnsent, not (is_empty v.slot.grants)) ∷ []) v m _ (fits, (ap (λ (l : List (ℕ × ℕ)). not (is_empty l)) none, tt))
+      passes ((WrongTicket, wrong v Sending t) ∷ (GrantsUnsent, not (is_empty v.slot.grants)) ∷ []) v m _ (fits, (ap not none, tt))
       ∙ ap (λ (n : ℕ). done (record { slot = n; grants = v.slot.granted })
       (with_slot v (record { next = v.slot.next; stage = Closed; used = v.slot.used; grants = v.slot.grants; granted = v.slot.granted; sent = v.slot.sent })) m) (sym (of-slot v Sending t fits))
 
-  pub closes-not : (x : ℕ × ℕ) (rest : List (ℕ × ℕ)) → v.slot.grants ≡ x ∷ rest → close_call v m t ≡ refused GrantsUnsent v m
-  closes-not x rest e = stops ((WrongTicket, wrong v Sending t) ∷ []) [] GrantsUnsent (not (is_empty v.slot.grants)) v m _ (fits, tt) (ap (λ (l : List (ℕ × ℕ)). not (is_empty l)) e)
+  pub closes-not : is_empty v.slot.grants ≡ false → close_call v m t ≡ refused GrantsUnsent v m
+  closes-not some = stops ((WrongTicket, wrong v Sending t) ∷ []) [] GrantsUnsent (not (is_empty v.slot.grants)) v m _ (fits, tt) (ap not some)

@@ -1,16 +1,13 @@
 //! A slot from its opening to its close.
 
-ghost use Rattle.std.specs.Prelude.{◌≡◌, not, length, IfOk};
+ghost use Rattle.std.specs.Prelude.{◌≡◌, not, IfOk};
 ghost use Rattle.law.specs.Calls.{requests, wrong};
-ghost use Rattle.law.specs.View.{pairs};
-ghost use Rattle.switch.specs.Ready.{Within};
 ghost use Rattle.switch.specs.Seen.{Closes, Decides, HandsBack, Opens, stamped, view};
 ghost use Rattle.switch.specs.Spent.{IsSpent};
 
 use super::Switch;
 use crate::tickets::{ArrivalTicket, GrantTicket, Returned, Stamp};
 use arbiters::Arbiter;
-use grants::PortCount;
 use law::{SlotClosed, Stage};
 use pairs::{Ports, Table};
 use refusals::Refusal;
@@ -57,7 +54,7 @@ impl<A: Arbiter> Switch<A> {
         let ArrivalTicket { stamp } = ticket;
         let requests = self.requests();
         let grants = self.arbiter.decide(requests);
-        self.granted = count(grants, self.ports);
+        self.granted = grants.len() as u8;
         self.grants = grants;
         self.sent = Ports::empty();
         self.stage = Stage::Sending;
@@ -78,7 +75,7 @@ impl<A: Arbiter> Switch<A> {
                 ticket,
             });
         }
-        if let Some(_) = self.grants.first() {
+        if !self.grants.is_empty() {
             return Err(Returned {
                 refusal: Refusal::GrantsUnsent,
                 ticket,
@@ -97,6 +94,7 @@ impl<A: Arbiter> Switch<A> {
     fn requests(&self) -> Table
         ensures { result ≡ requests (view self.now) }
     {
+        // The ports are what the table is made of, so the loops go over them; over the cells they would count them as well.
         let mut table = Table::empty();
         let ports = self.ports.number() as usize;
         for i in 0..ports {
@@ -115,18 +113,4 @@ impl<A: Arbiter> Switch<A> {
     {
         stamp.mark == self.mark && stamp.slot as u64 + 1 == self.next && self.stage == stage
     }
-}
-
-/// How many pairs a table has, all of them of so many ports.
-fn count(table: Table, ports: PortCount) -> u8
-    requires { Within ports.number table }
-    ensures { result ≡ length (pairs ports.number table) }
-{
-    let mut number = 0;
-    let mut rest = table;
-    while let Some((i, o)) = rest.first() {
-        rest = rest.without(i, o);
-        number += 1;
-    }
-    number
 }

@@ -1,18 +1,17 @@
-use Rattle.std.proofs.Common.{sym, refl, ◌∙◌}
+use Rattle.std.proofs.Common.{sym, refl, ◌∙◌, arith}
 use Rattle.std.proofs.lemmas.Bool.{not-true}
 use Rattle.pairs.specs.Tables.{inside}
+use Rattle.pairs.proofs.Sizes.{size-most}
 use Rattle.law.specs.declared.stage.Stage.TheVariants.{Arriving}
 use Rattle.law.specs.Calls.{wrong}
 use Rattle.switch.specs.Seen.{view, arrival_of}
 use Rattle.switch.proofs.PortSets.{inside-none}
 use Rattle.switch.proofs.Decisions.{within-granted, ready-granted, decides}
+use Rattle.switch.proofs.Sizes.{size-pairs}
 use Rattle.switch.proofs.state.Switch.decide.Goals as goal
 
-pub count-self-requires : goal.count-self-requires
-count-self-requires g c =
-    let s = c.args.self.now in
-    let a = g.A.Arbiter.meaning in
-    within-granted a (view s) s.arbiter c.requests-requests.result c.decide-grants.result (g.met.A.Arbiter.lawful.requested s.arbiter c.requests-requests.result) c.requests-requests.ensures c.decide-grants.ensures.answer
+pub overflow_cast-self : goal.overflow_cast-self
+overflow_cast-self g c = omega (arith, size-most c.decide-grants.result, c.len.ensures)
 
 pub invariant_of-self : goal.invariant_of-self
 invariant_of-self g c =
@@ -27,9 +26,10 @@ returns g c =
     let a = g.A.Arbiter.meaning in
     let t = arrival_of c.args.ticket in
     record {
-      done = λ m. decides a v m t c.requests-requests.result c.decide-grants.result c.decide-grants.new.self c.count-self.result (inside c.empty-self.result)
+      done = λ m. decides a v m t c.requests-requests.result c.decide-grants.result c.decide-grants.new.self c.len.result (inside c.empty-self.result)
           (not-true (wrong v Arriving t) (sym c.fits.ensures ∙ c.if-not-fits.false))
-          c.requests-requests.ensures c.decide-grants.ensures.answer c.decide-grants.ensures.after c.count-self.ensures (inside-none c.empty-self.result c.empty-self.ensures);
+          c.requests-requests.ensures c.decide-grants.ensures.answer c.decide-grants.ensures.after (c.len.ensures ∙ size-pairs s.ports.number c.decide-grants.result s.ports.eight
+          (within-granted a v s.arbiter c.requests-requests.result c.decide-grants.result (g.met.A.Arbiter.lawful.requested s.arbiter c.requests-requests.result) c.requests-requests.ensures c.decide-grants.ensures.answer)) (inside-none c.empty-self.result c.empty-self.ensures);
       back = tt;
       unspent = λ spent. cc;
     }
