@@ -1,22 +1,10 @@
 //! A slot line in words.
 
 use cells::{Cell, Header};
-use lines::{Frame, SlotLine};
+use lines::{Frame, SlotLine, spell_into};
 use refusals::Refusal;
 use std::io;
 use std::io::Write;
-
-const DIGITS: &[u8; 16] = b"0123456789ABCDEF";
-
-/// Two upper-case digits for each byte of the cell.
-fn spelled(cell: &Cell) -> [u8; 106] {
-    let mut text = [0u8; 106];
-    for i in 0..53 {
-        text[2 * i] = DIGITS[(cell[i] / 16) as usize];
-        text[2 * i + 1] = DIGITS[(cell[i] % 16) as usize];
-    }
-    text
-}
 
 fn list_cell<W: Write>(number: u32, input: u8, cell: &Cell, out: &mut W) -> io::Result<()> {
     let Header {
@@ -30,8 +18,9 @@ fn list_cell<W: Write>(number: u32, input: u8, cell: &Cell, out: &mut W) -> io::
         out,
         "{number}: cell: input {input}, GFC {gfc:X}, VPI {vpi:02X}, VCI {vci:04X}, PT {payload_type}, CLP {loss_priority}, bytes "
     )?;
-    out.write_all(&spelled(cell))?;
-    out.write_all(b"\n")
+    let mut text = [b'\n'; 107];
+    spell_into(cell, &mut text);
+    out.write_all(&text)
 }
 
 fn list_frame<W: Write>(number: u32, frame: &Frame, out: &mut W) -> io::Result<()> {

@@ -22,10 +22,10 @@ It ends with status 1 if input cannot be read or output not written. docs/SLOT-L
 
 /// Lists every line that ends in the chunk.
 fn list_chunk<W: Write>(chunk: &[u8], reader: &mut LineReader, out: &mut W) -> io::Result<()> {
-    let mut at = 0;
-    while at < chunk.len() {
-        let fed = reader.feed(&chunk[at..]);
-        at += fed.used;
+    let mut rest = chunk;
+    while !rest.is_empty() {
+        let fed = reader.feed(rest);
+        rest = &rest[fed.used..];
         if let Some(line) = fed.line {
             list(&line, out)?;
         }

@@ -1,6 +1,5 @@
 -- What a call gives where its piece has a 0A.
-use Rattle.std.proofs.Common.{◌≡◌, ℕ, ◌+◌, ◌-◌, ◌<◌, true, false, List, [], ◌++◌, length, take, Some, None, Result, sym, ap, ◌∙◌, arith}
-use native.Mathlib.Nat.{sub-zero}
+use Rattle.std.proofs.Common.{◌≡◌, ℕ, ◌+◌, ◌-◌, ◌<◌, true, false, List, [], ◌∷◌, ◌++◌, length, take, Some, None, Result, sym, ap, ◌∙◌, arith}
 use Rattle.std.proofs.lemmas.Bool.{lt-ltb, le-ltb}
 use Rattle.lines.specs.declared.frame.Frame.{Frame}
 use Rattle.refusals.specs.declared.refusal.Refusal.{Refusal}
@@ -11,8 +10,8 @@ use Rattle.lines.specs.Reading.{Reading, after, fed, next}
 use Rattle.lines.proofs.Ending.{up_to-take}
 use Rattle.lines.proofs.Cuts.{frame-front}
 
-pub part-is : (p : List ℕ) (n : ℕ) → n ≡ length (up_to p) → take (n - 0) p ≡ up_to p
-part-is p n e = ap (λ (k : ℕ). take k p) (sub-zero n ∙ e) ∙ up_to-take p
+pub part-is : (p : List ℕ) (n : ℕ) → n ≡ length (up_to p) → take n p ≡ up_to p
+part-is p n e = ap (λ (k : ℕ). take k p) e ∙ up_to-take p
 
 pub ends-since : (p : List ℕ) (n : ℕ) → n ≡ length (up_to p) → n < length p → ends p ≡ true
 ends-since p n e h = lt-ltb (length (up_to p)) (length p) (omega arith)
@@ -32,10 +31,11 @@ after_line v p n k e h w =
     let t : ends p ≡ true = ends-since p n e h in
     rw (t, w)
 
-pub said-first : (held p : List ℕ) (n : ℕ) → n ≡ length (up_to p) → held ≡ [] → frame_of (take (n - 0) p) ≡ frame_of (held ++ up_to p)
-said-first held p n e z = ap frame_of (part-is p n e ∙ ap (λ (zs : List ℕ). zs ++ up_to p) (sym z))
+pub said-first : (held p : List ℕ) (n : ℕ) → n ≡ length (up_to p) → length held ≡ 0 → frame_of (take n p) ≡ frame_of (held ++ up_to p)
+said-first [] p n e z = ap frame_of (part-is p n e)
+said-first (b ∷ held) p n e z = absurd (omega arith)
 
-pub said-later : (held kept p : List ℕ) (n : ℕ) → n ≡ length (up_to p) → kept ≡ take 201 (held ++ take (n - 0) p) → frame_of kept ≡ frame_of (held ++ up_to p)
+pub said-later : (held kept p : List ℕ) (n : ℕ) → n ≡ length (up_to p) → kept ≡ take 201 (held ++ take n p) → frame_of kept ≡ frame_of (held ++ up_to p)
 said-later held kept p n e k =
     ap frame_of (k ∙ ap (λ (zs : List ℕ). take 201 (held ++ zs)) (part-is p n e)) ∙ frame-front (held ++ up_to p)
 

@@ -24,7 +24,7 @@ pub record Reading : Type 0 where
   pub held : List ℕ
 
 abbrev pub reading : LineReader → Reading
-reading r = record { number = r.number; held = take r.len r.start }
+reading r = record { number = r.number; held = r.start.items }
 
 abbrev pub fresh : Reading
 fresh = record { number = 1; held = [] }

@@ -11,6 +11,10 @@ written bytes = spell bytes ++ (10 ∷ [])
 abbrev pub departure_bytes : DepartureLine → List ℕ
 departure_bytes d = 130 ∷ d.output ∷ (high-four d.slot ++ (d.input ∷ (high-two d.came ++ (high-two d.left ++ d.cell))))
 
+-- a kind, a number, one byte more
+abbrev pub numbered_bytes : ℕ → ℕ → ℕ → List ℕ
+numbered_bytes kind number last = kind ∷ (high-four number ++ (last ∷ []))
+
 -- 83, slot, number of grants
 abbrev pub closing_bytes : ℕ → ℕ → List ℕ
 closing_bytes slot grants = 131 ∷ (high-four slot ++ (grants ∷ []))

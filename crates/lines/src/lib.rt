@@ -8,4 +8,4 @@ mod written;
 
 pub use frame::{ArbiterKind, Frame, LONGEST, frame_of};
 pub use reader::{Fed, LineReader, SlotLine};
-pub use written::{DepartureLine, closing_line, departure_line, refusal_line};
+pub use written::{DepartureLine, closing_line, departure_line, refusal_line, spell_into};

@@ -1,8 +1,7 @@
 //! A reader of lines that holds no more than the start of one line.
 
-ghost use Rattle.std.specs.Prelude.{◌≤◌};
-
 use crate::frame::Frame;
+use arrayvec::ArrayVec;
 use refusals::Refusal;
 
 mod calls;
@@ -30,8 +29,6 @@ pub struct Fed {
 /// The first 201 bytes of the line that is being read, and its number.
 #[derive(Drop)]
 pub struct LineReader {
-    start: [u8; KEPT],
-    len: usize,
+    start: ArrayVec<u8, KEPT>,
     number: u32,
-    ghost fits: { len ≤ 201 },
 }

@@ -2,7 +2,7 @@
 
 ghost use Rattle.std.specs.Prelude.{◌≡◌, ◌*◌, ◌/◌, ◌<◌, min, ◌++◌, length, take, drop};
 ghost use Rattle.lines.specs.Spelling.{spell, upper};
-ghost use Rattle.lines.specs.Written.{closing_bytes, departure_bytes, refusal_bytes, written};
+ghost use Rattle.lines.specs.Written.{closing_bytes, departure_bytes, numbered_bytes, refusal_bytes, written};
 
 /// The kinds of the lines that are written.
 const DEPARTURE: u8 = 0x82;
@@ -35,17 +35,12 @@ fn digit_of(value: u8) -> u8
     DIGITS[value as usize]
 }
 
-/// Spells as many of the bytes as the line has room for, and says how much of the line that takes.
-fn spell_into(bytes: &[u8], line: &mut [u8]) -> usize
+/// Spells as many of the bytes as the line has room for, by two digits each, and says how much of the line that takes.
+pub fn spell_into(bytes: &[u8], line: &mut [u8]) -> usize
     ensures used { result ≡ 2 * min (length bytes.now) (length line.old / 2) }
     ensures line { line.new ≡ spell (take (result / 2) bytes.now) ++ drop result line.old }
 {
-    let room = line.len() / 2;
-    let n = if bytes.len() < room {
-        bytes.len()
-    } else {
-        room
-    };
+    let n = bytes.len().min(line.len() / 2);
     for i in 0..n {
         line[2 * i] = digit_of(bytes[i] / 16);
         line[2 * i + 1] = digit_of(bytes[i] % 16);
@@ -87,31 +82,27 @@ pub fn departure_line(sent: &DepartureLine) -> [u8; 129]
     line
 }
 
+/// The line of six bytes: a kind, a number and one more.
+fn numbered_line(kind: u8, number: u32, last: u8) -> [u8; 13]
+    ensures { result ≡ written (numbered_bytes kind number last) }
+{
+    let [n0, n1, n2, n3] = number.to_be_bytes();
+    let bytes = [kind, n0, n1, n2, n3, last];
+    let mut line = [LINE_FEED; 13];
+    spell_into(&bytes, &mut line);
+    line
+}
+
 /// The line for a slot that was closed with so many grants.
 pub fn closing_line(slot: u32, grants: u8) -> [u8; 13]
     ensures { result ≡ written (closing_bytes slot grants) }
 {
-    let number = slot.to_be_bytes();
-    let bytes = [CLOSING, number[0], number[1], number[2], number[3], grants];
-    let mut line = [LINE_FEED; 13];
-    spell_into(&bytes, &mut line);
-    line
+    numbered_line(CLOSING, slot, grants)
 }
 
 /// The line for a line that was refused: its number, and the number of the refusal.
 pub fn refusal_line(number: u32, refusal: u8) -> [u8; 13]
     ensures { result ≡ written (refusal_bytes number refusal) }
 {
-    let line_number = number.to_be_bytes();
-    let bytes = [
-        REFUSAL,
-        line_number[0],
-        line_number[1],
-        line_number[2],
-        line_number[3],
-        refusal,
-    ];
-    let mut line = [LINE_FEED; 13];
-    spell_into(&bytes, &mut line);
-    line
+    numbered_line(REFUSAL, number, refusal)
 }

@@ -1,42 +1,13 @@
 //! The calls of a reader of lines.
 
-ghost use Rattle.std.specs.Prelude.{◌≡◌, ℕ, ◌+◌, ◌<◌, ◌≤◌, false, List, [], ◌++◌, length, take, drop, ◌≢◌, slice_index};
+ghost use Rattle.std.specs.Prelude.{◌≡◌, ◌<◌, ◌≤◌, ℕ, List, [], ◌++◌, length, take, drop};
 ghost use Rattle.lines.specs.Lined.{OneWay};
-ghost use Rattle.lines.specs.Lines.{up_to};
 ghost use Rattle.lines.specs.Reading.{AnyCut, after, fed, fresh, last, reading, still, as_list};
 
-use super::{Fed, KEPT, LINE_FEED, LineReader, SlotLine};
+use super::{Fed, LINE_FEED, LineReader, SlotLine};
 use crate::frame::frame_of;
-
-/// How many bytes are looked at together.
-const CHUNK: usize = 16;
-
-/// Whether some byte is 0A.
-fn has_line_feed(chunk: &[u8]) -> bool
-    ensures { result ≡ false → (k : ℕ) → k < length chunk.now → slice_index chunk.now k ≢ 10 }
-{
-    let mut found = false;
-    for b in chunk {
-        // No early way out, so that the bytes of a chunk are compared at once.
-        found = found | (*b == LINE_FEED);
-    }
-    found
-}
-
-/// The place of the first 0A, or the length.
-fn line_end(piece: &[u8]) -> usize
-    ensures place { result ≡ length (up_to piece.now) }
-    ensures within { result ≤ length piece.now }
-{
-    let mut i = 0;
-    'chunks: while piece.len() - i >= CHUNK && !has_line_feed(&piece[i..i + CHUNK]) {
-        i += CHUNK;
-    }
-    'bytes: while i < piece.len() && piece[i] != LINE_FEED {
-        i += 1;
-    }
-    i
-}
+use arrayvec::ArrayVec;
+use memchr::memchr;
 
 impl LineReader {
     /// At the start of the first line.
@@ -46,22 +17,18 @@ impl LineReader {
         ensures lines { OneWay }
     {
         LineReader {
-            start: [0; KEPT],
-            len: 0,
+            start: ArrayVec::new(),
             number: 1,
         }
     }
 
+    /// Keeps what there is room for.
     fn keep(&mut self, part: &[u8])
-        ensures kept { take self.new.len self.new.start ≡ take 201 (take self.old.len self.old.start ++ part.now) }
+        ensures kept { self.new.start.items ≡ take 201 (self.old.start.items ++ part.now) }
         ensures same { self.new.number ≡ self.old.number }
     {
-        for b in part {
-            if self.len < KEPT {
-                self.start[self.len] = *b;
-                self.len += 1;
-            }
-        }
+        let room = part.len().min(self.start.remaining_capacity());
+        self.start.try_extend_from_slice(&part[..room]).unwrap();
     }
 
     /// Uses a piece of the input up to its first 0A, or to its end.
@@ -72,23 +39,22 @@ impl LineReader {
         ensures within { result.used ≤ length piece.now }
         ensures forward { 0 < length piece.now → 0 < result.used }
     {
-        let end = line_end(piece);
-        if end == piece.len() {
+        let Some(end) = memchr(LINE_FEED, piece) else {
             self.keep(piece);
             return Fed {
-                used: end,
+                used: piece.len(),
                 line: None,
             };
-        }
-        let frame = if self.len == 0 {
-            frame_of(&piece[0..end])
+        };
+        let frame = if self.start.is_empty() {
+            frame_of(&piece[..end])
         } else {
-            self.keep(&piece[0..end]);
-            frame_of(&self.start[0..self.len])
+            self.keep(&piece[..end]);
+            frame_of(self.start.as_slice())
         };
         let number = self.number;
         self.number = number.saturating_add(1);
-        self.len = 0;
+        self.start.clear();
         Fed {
             used: end + 1,
             line: Some(SlotLine { number, frame }),
@@ -100,12 +66,12 @@ impl LineReader {
         ensures result { result ≡ last (reading self) }
         ensures answers { still (reading self) [] ≡ as_list result }
     {
-        if self.len == 0 {
+        if self.start.is_empty() {
             return None;
         }
         Some(SlotLine {
             number: self.number,
-            frame: frame_of(&self.start[0..self.len]),
+            frame: frame_of(self.start.as_slice()),
         })
     }
 }
