@@ -1,6 +1,8 @@
 //! A reservation on any arbiter, which is again an arbiter: in the last slot of each period it lets the reserved pairs go first and
 //! leaves the arbiter below alone; in the others it hands all requests down.
 
+ghost use Rattle.std.specs.Prelude.{◌≡◌};
+
 use crate::arbiter::Arbiter;
 use crate::period::Period;
 use crate::reserved::Reserved;
@@ -21,4 +23,13 @@ pub struct Reservation<A: Arbiter> {
 pub struct Unreserved<A: Arbiter> {
     pub below: A,
     pub why: Refusal,
+}
+
+/// The refusal alone: the arbiter is let go.
+impl<A: Arbiter + Drop> From<Unreserved<A>> for Refusal {
+    ghost from_gives = { λ e r. r ≡ e.why };
+
+    fn from(unreserved: Unreserved<A>) -> Refusal {
+        unreserved.why
+    }
 }

@@ -3,41 +3,35 @@
 use pairs::Table;
 use refusals::Refusal;
 use std::fmt;
+use thiserror::Error;
 
-/// Why a line is none that can be carried out.
-#[derive(Clone, Copy)]
+/// Why a line is not carried out.
+#[derive(Clone, Copy, Debug, Error)]
 pub enum Fault {
+    #[error("refused {:02}", .0.number())]
+    Refused(#[from] Refusal),
+    #[error("error: a line has at most 64 bytes")]
     LineTooLong,
+    #[error("error: neither a command nor 16 hexadecimal digits")]
     UnknownLine,
+    #[error("error: a decimal number is missing")]
     NoNumber,
+    #[error("error: an input and an output are missing, with a space between them")]
     NoPair,
+    #[error("error: no arbiter stands yet")]
     NoArbiter,
+    #[error("error: no reservation stands yet")]
     NoReservation,
+    #[error("error: three reservations stand already")]
     PileFull,
 }
 
-impl Fault {
-    fn sentence(self) -> &'static str {
-        match self {
-            Fault::LineTooLong => "a line has at most 64 bytes",
-            Fault::UnknownLine => "neither a command nor 16 hexadecimal digits",
-            Fault::NoNumber => "a decimal number is missing",
-            Fault::NoPair => "an input and an output are missing, with a space between them",
-            Fault::NoArbiter => "no arbiter stands yet",
-            Fault::NoReservation => "no reservation stands yet",
-            Fault::PileFull => "three reservations stand already",
-        }
-    }
-}
-
-/// What a line is answered by.
+/// What a line that is carried out is answered by.
 #[derive(Clone, Copy)]
 pub enum Answer {
     Done,
     Wait(u16),
     Grants(Table),
-    Refused(Refusal),
-    Fault(Fault),
 }
 
 impl fmt::Display for Answer {
@@ -47,18 +41,9 @@ impl fmt::Display for Answer {
             Answer::Wait(wait) => write!(f, "wait {wait}"),
             Answer::Grants(grants) => {
                 for input in 0..8 {
-                    let byte = grants.outputs(input).byte();
-                    write!(f, "{byte:02X}")?;
+                    write!(f, "{:02X}", grants.outputs(input).byte())?;
                 }
                 Ok(())
-            }
-            Answer::Refused(refusal) => {
-                let number = refusal.number();
-                write!(f, "refused {number:02}")
-            }
-            Answer::Fault(fault) => {
-                f.write_str("error: ")?;
-                f.write_str(fault.sentence())
             }
         }
     }

@@ -1,7 +1,5 @@
 //! What a line asks for.
 
-ghost use Rattle.std.specs.Prelude.{◌<◌, IfOk};
-
 use crate::answer::Fault;
 use crate::line::Line;
 use pairs::{Ports, Table};
@@ -29,88 +27,65 @@ pub fn read(line: &Line) -> Result<Command, Fault> {
         return Err(Fault::LineTooLong);
     }
     let text = line.bytes();
-    if let Some(rest) = after(text, b"diagonal ") {
-        let ports = number(rest)?;
-        return Ok(Command::StartDiagonal { ports });
-    }
-    if let Some(rest) = after(text, b"ripple ") {
-        let ports = number(rest)?;
-        return Ok(Command::StartRipple { ports });
-    }
-    if let Some(rest) = after(text, b"period ") {
-        let slots = number(rest)?;
-        return Ok(Command::Use(Action::Period { slots }));
-    }
-    if let Some(rest) = after(text, b"reserve ") {
-        let (input, output) = pair(rest)?;
-        return Ok(Command::Use(Action::Reserve { input, output }));
-    }
-    if let Some(rest) = after(text, b"wait ") {
-        let (input, output) = pair(rest)?;
-        return Ok(Command::Use(Action::Wait { input, output }));
-    }
-    let requests = table(text)?;
-    Ok(Command::Use(Action::Decide { requests }))
+    let command = match split_at_space(text) {
+        Some((b"diagonal", rest)) => Command::StartDiagonal {
+            ports: number(rest)?,
+        },
+        Some((b"ripple", rest)) => Command::StartRipple {
+            ports: number(rest)?,
+        },
+        Some((b"period", rest)) => Command::Use(Action::Period {
+            slots: number(rest)?,
+        }),
+        Some((b"reserve", rest)) => {
+            let (input, output) = pair(rest)?;
+            Command::Use(Action::Reserve { input, output })
+        }
+        Some((b"wait", rest)) => {
+            let (input, output) = pair(rest)?;
+            Command::Use(Action::Wait { input, output })
+        }
+        _ => Command::Use(Action::Decide {
+            requests: table(text)?,
+        }),
+    };
+    Ok(command)
 }
 
-/// What stands after the word, if the text begins with it.
-fn after<'a>(text: &'a [u8], word: &[u8]) -> Option<&'a [u8]> {
-    if text.starts_with(word) {
-        Some(&text[word.len()..])
-    } else {
-        None
-    }
+/// What stands before the first space and what stands after it.
+fn split_at_space(text: &[u8]) -> Option<(&[u8], &[u8])> {
+    let space = text.iter().position(|byte| *byte == b' ')?;
+    Some((&text[..space], &text[space + 1..]))
 }
 
 /// A decimal number. Numbers above 255 count as 255, which is beyond any port count or period too.
 fn number(text: &[u8]) -> Result<u8, Fault> {
-    if text.is_empty() {
+    if text.is_empty() || !text.iter().all(|byte| byte.is_ascii_digit()) {
         return Err(Fault::NoNumber);
     }
-    let mut value: u8 = 0;
-    for byte in text {
-        if *byte < b'0' || *byte > b'9' {
-            return Err(Fault::NoNumber);
-        }
-        value = value.saturating_mul(10).saturating_add(*byte - b'0');
-    }
-    Ok(value)
+    Ok(
+        text.iter().fold(
+            0u8,
+            |value, byte| value
+                .saturating_mul(10)
+                .saturating_add(byte.saturating_sub(b'0')),
+        ),
+    )
 }
 
 /// Two decimal numbers with a space between them.
 fn pair(text: &[u8]) -> Result<(u8, u8), Fault> {
-    for (i, byte) in text.iter().enumerate() {
-        if *byte == b' ' {
-            let input = number(&text[0..i])?;
-            let output = number(&text[i + 1..])?;
-            return Ok((input, output));
-        }
-    }
-    Err(Fault::NoPair)
+    let (input, output) = split_at_space(text).ok_or(Fault::NoPair)?;
+    Ok((number(input)?, number(output)?))
 }
 
 /// A table of requests: two hexadecimal digits for each input, from input 0 on.
 fn table(text: &[u8]) -> Result<Table, Fault> {
-    if text.len() != 16 {
-        return Err(Fault::UnknownLine);
-    }
+    let mut outputs = [0; 8];
+    hex::decode_to_slice(text, &mut outputs).map_err(|_| Fault::UnknownLine)?;
     let mut requests = Table::empty();
-    for input in 0..8 {
-        let high = digit(text[2 * input])?;
-        let low = digit(text[2 * input + 1])?;
-        requests = requests.with_outputs(input, Ports::from_byte(high * 16 + low));
+    for (input, byte) in outputs.iter().enumerate() {
+        requests = requests.with_outputs(input, Ports::from_byte(*byte));
     }
     Ok(requests)
-}
-
-/// The value of a hexadecimal digit, of either case.
-fn digit(byte: u8) -> Result<u8, Fault>
-    ensures { IfOk result (λ v. v < 16) }
-{
-    match byte {
-        b'0'..=b'9' => Ok(byte - b'0'),
-        b'A'..=b'F' => Ok(byte - b'A' + 10),
-        b'a'..=b'f' => Ok(byte - b'a' + 10),
-        _ => Err(Fault::UnknownLine),
-    }
 }

@@ -1,60 +1,57 @@
 //! The line that is being read, in constant memory whatever its length.
 
-ghost use Rattle.std.specs.Prelude.{◌≡◌, ◌+◌, ◌<◌, ◌≤◌, min, take};
+ghost use Rattle.std.specs.Prelude.{◌≡◌, [], ◌∷◌, ◌++◌, take};
+
+use arrayvec::ArrayVec;
 
 /// The bytes that a line may have.
 pub const LONGEST: usize = 64;
 
 /// A line of which the first bytes are kept: one more than it may have, so that a line that is too long is known by its length.
-#[derive(Clone, Copy)]
+#[derive(Drop)]
 pub struct Line {
-    bytes: [u8; 65],
-    length: usize,
-    ghost fits: { length ≤ 65 },
+    kept: ArrayVec<u8, 65>,
 }
 
 impl Line {
     /// A line of no byte.
     pub fn new() -> Line
-        ensures { result.length ≡ 0 }
+        ensures { result.kept.items ≡ [] }
     {
         Line {
-            bytes: [0; 65],
-            length: 0,
+            kept: ArrayVec::new(),
         }
     }
 
     /// One byte more.
     pub fn push(&mut self, byte: u8)
-        ensures { self.new.length ≡ min (self.old.length + 1) 65 }
+        ensures { self.new.kept.items ≡ take 65 (self.old.kept.items ++ byte ∷ []) }
     {
-        if self.length < 65 {
-            self.bytes[self.length] = byte;
-            self.length += 1;
-        }
+        // a byte past those that are kept changes nothing
+        let _ = self.kept.try_push(byte);
     }
 
     /// Begins anew.
     pub fn clear(&mut self)
-        ensures { self.new.length ≡ 0 }
+        ensures { self.new.kept.items ≡ [] }
     {
-        self.length = 0;
+        self.kept.clear();
     }
 
     /// Whether the line has no byte.
     pub fn is_empty(&self) -> bool {
-        self.length == 0
+        self.kept.is_empty()
     }
 
     /// Whether the line has more bytes than it may have.
     pub fn is_too_long(&self) -> bool {
-        self.length > LONGEST
+        self.kept.len() > LONGEST
     }
 
     /// The bytes that were kept.
     pub fn bytes(&self) -> &[u8]
-        ensures { result.now ≡ take self.now.length self.now.bytes }
+        ensures { result.now ≡ self.now.kept.items }
     {
-        &self.bytes[0..self.length]
+        self.kept.as_slice()
     }
 }

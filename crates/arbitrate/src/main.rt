@@ -9,7 +9,6 @@ mod line;
 mod pile;
 mod standing;
 
-use answer::Answer;
 use command::read;
 use line::Line;
 use standing::{Standing, carry_out};
@@ -17,49 +16,50 @@ use std::io;
 use std::io::{BufRead, BufReader, BufWriter, Write};
 
 /// Answers the line that has ended, and begins the next.
-fn answer_line<W: Write>(line: &mut Line, standing: Standing, out: &mut W) -> io::Result<Standing> {
-    let (standing, answer) = match read(line) {
-        Ok(command) => carry_out(standing, command),
-        Err(fault) => (standing, Answer::Fault(fault)),
-    };
+fn answer_line<W: Write>(
+    line: &mut Line,
+    standing: &mut Option<Standing>,
+    out: &mut W,
+) -> io::Result<()> {
+    let answer = read(line).and_then(|command| carry_out(standing, command));
     line.clear();
-    writeln!(out, "{answer}")?;
-    Ok(standing)
+    match answer {
+        Ok(answer) => writeln!(out, "{answer}"),
+        Err(fault) => writeln!(out, "{fault}"),
+    }
 }
 
 /// Answers the lines that end in this piece of the input.
 fn answer_piece<W: Write>(
     piece: &[u8],
     line: &mut Line,
-    standing: Standing,
+    standing: &mut Option<Standing>,
     out: &mut W,
-) -> io::Result<Standing> {
-    let mut standing = standing;
+) -> io::Result<()> {
     for byte in piece {
-        if *byte == b'\n' {
-            standing = answer_line(line, standing, out)?;
-        } else {
-            line.push(*byte);
+        match *byte {
+            b'\n' => answer_line(line, standing, out)?,
+            byte => line.push(byte),
         }
     }
-    Ok(standing)
+    Ok(())
 }
 
 /// Answers all lines: the last may end with the input.
 fn answer_all<R: BufRead, W: Write>(input: &mut R, out: &mut W) -> io::Result<()> {
     let mut line = Line::new();
-    let mut standing = Standing::Nothing;
+    let mut standing = None;
     for _ in 0..u64::MAX {
         let piece = input.fill_buf()?;
         let length = piece.len();
         if length == 0 {
             break;
         }
-        standing = answer_piece(piece, &mut line, standing, out)?;
+        answer_piece(piece, &mut line, &mut standing, out)?;
         input.consume(length);
     }
     if !line.is_empty() {
-        let _ = answer_line(&mut line, standing, out)?;
+        answer_line(&mut line, &mut standing, out)?;
     }
     Ok(())
 }

@@ -4,7 +4,7 @@ ghost use Rattle.arbitrate.specs.Piles.{after_of, answer_of, ports_of, wait_of};
 ghost use Rattle.arbiters.specs.Rules.{told};
 ghost use Rattle.std.specs.Prelude.{◌≡◌};
 
-use crate::answer::{Answer, Fault};
+use crate::answer::Fault;
 use arbiters::{Arbiter, Reservation};
 use pairs::Table;
 
@@ -44,35 +44,32 @@ impl<A: Arbiter> Pile<A> {
     }
 
     /// Reserves a pair at the topmost reservation.
-    pub fn reserve(&mut self, input: u8, output: u8) -> Answer {
-        let reserved = match self {
-            Pile::Bare(_) => return Answer::Fault(Fault::NoReservation),
-            Pile::One(arbiter) => arbiter.reserve(input, output),
-            Pile::Two(arbiter) => arbiter.reserve(input, output),
-            Pile::Three(arbiter) => arbiter.reserve(input, output),
-        };
-        match reserved {
-            Ok(()) => Answer::Done,
-            Err(refusal) => Answer::Refused(refusal),
+    pub fn reserve(&mut self, input: u8, output: u8) -> Result<(), Fault> {
+        match self {
+            Pile::Bare(_) => return Err(Fault::NoReservation),
+            Pile::One(arbiter) => arbiter.reserve(input, output)?,
+            Pile::Two(arbiter) => arbiter.reserve(input, output)?,
+            Pile::Three(arbiter) => arbiter.reserve(input, output)?,
         }
+        Ok(())
     }
 
-    /// Puts a reservation on top.
-    pub fn put(self, slots: u8) -> (Pile<A>, Answer) {
+    /// Puts a reservation on top, and says how that went.
+    pub fn put(self, slots: u8) -> (Pile<A>, Result<(), Fault>) {
         match self {
             Pile::Bare(below) => match Reservation::new(below, slots) {
-                Ok(one) => (Pile::One(one), Answer::Done),
-                Err(e) => (Pile::Bare(e.below), Answer::Refused(e.why)),
+                Ok(one) => (Pile::One(one), Ok(())),
+                Err(e) => (Pile::Bare(e.below), Err(Fault::Refused(e.why))),
             },
             Pile::One(below) => match Reservation::new(below, slots) {
-                Ok(two) => (Pile::Two(two), Answer::Done),
-                Err(e) => (Pile::One(e.below), Answer::Refused(e.why)),
+                Ok(two) => (Pile::Two(two), Ok(())),
+                Err(e) => (Pile::One(e.below), Err(Fault::Refused(e.why))),
             },
             Pile::Two(below) => match Reservation::new(below, slots) {
-                Ok(three) => (Pile::Three(three), Answer::Done),
-                Err(e) => (Pile::Two(e.below), Answer::Refused(e.why)),
+                Ok(three) => (Pile::Three(three), Ok(())),
+                Err(e) => (Pile::Two(e.below), Err(Fault::Refused(e.why))),
             },
-            Pile::Three(full) => (Pile::Three(full), Answer::Fault(Fault::PileFull)),
+            Pile::Three(full) => (Pile::Three(full), Err(Fault::PileFull)),
         }
     }
 }

@@ -7,7 +7,8 @@ use Rattle.law.specs.Runs.{Event, arrive, made}
 use Rattle.law.specs.History.{Acceptance, accepted, accepting, history}
 use Rattle.law.specs.Law.{Lawful}
 use Rattle.delays.specs.declared.periods.Periods.{Periods}
-use Rattle.delays.specs.Piles.{Pile, Stands, periods_of, piled}
+use Rattle.piles.specs.Three.{Pile}
+use Rattle.delays.specs.Piles.{Stands, periods_of, piled}
 use Rattle.delays.specs.Leaving.{AllLeave, Starts, acceptances}
 use Rattle.delays.proofs.Acceptances.{as_many}
 

@@ -1,2 +1,3 @@
 mod Acceptances
+pub mod Asking
 pub mod Leaving

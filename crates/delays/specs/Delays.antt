@@ -2,26 +2,17 @@
 use Rattle.std.specs.Prelude.{◌≡◌, ℕ, ◌+◌, ◌-◌, ◌*◌, ◌/◌, Bool, cond, ◌&&◌, Ok, Err, Result, nat_le}
 use Rattle.refusals.specs.declared.refusal.Refusal.{Refusal}
 use Rattle.refusals.specs.declared.refusal.Refusal.TheVariants.{PortCount, PeriodRange}
+use Rattle.arbiters.specs.Periods.{longest}
+use Rattle.piles.specs.Fits.{period_fits, ports_fit}
 use Rattle.delays.specs.declared.periods.Periods.{Periods}
-
--- the longest wait with a reservation of period k, where v is the longest without it
-abbrev pub with_period : ℕ → ℕ → ℕ
-with_period k v = v + 1 + v / (k - 1)
 
 -- the longest wait of the pile: n - 1 on the diagonal arbiter, then with each reservation from the lowest
 abbrev pub longest_wait : ℕ → Periods → ℕ
-longest_wait n p = with_period p.high (with_period p.middle (with_period p.low (n - 1)))
+longest_wait n p = longest p.high (longest p.middle (longest p.low (n - 1)))
 
 -- after so many closings a cell with k ahead in its queue has left
 abbrev pub closings_until_left : ℕ → Periods → ℕ → ℕ
 closings_until_left n p k = (k + 1) * (longest_wait n p + 1)
-
--- 2 to 8 ports, and periods of 2 to 64 slots
-abbrev pub ports_fit : ℕ → Bool
-ports_fit n = nat_le 2 n && nat_le n 8
-
-abbrev pub period_fits : ℕ → Bool
-period_fits k = nat_le 2 k && nat_le k 64
 
 -- the port count is looked at first
 abbrev pub allowed : ℕ → Periods → Result (Unit {0}) Refusal

@@ -8,7 +8,8 @@ use Rattle.law.specs.History.{Acceptance, both, closings, counted, history, sent
 use Rattle.law.specs.Law.{Lawful}
 use Rattle.delays.specs.declared.periods.Periods.{Periods}
 use Rattle.delays.specs.Delays.{closings_until_left}
-use Rattle.delays.specs.Piles.{Pile, Stands, piled}
+use Rattle.piles.specs.Three.{Pile}
+use Rattle.delays.specs.Piles.{Stands, piled}
 
 -- a cell was accepted for the queue (i, o)
 abbrev pub is_for : ℕ → ℕ → Option Acceptance → Bool

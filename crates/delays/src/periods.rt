@@ -1,7 +1,9 @@
 //! The periods of a pile of three reservations, and the delays that they make.
 
 ghost use Rattle.std.specs.Prelude.{◌≡◌, ◌*◌, ◌<◌, ◌≤◌};
-ghost use Rattle.delays.specs.Delays.{Answers, allowed, closings_until_left, longest_wait, period_fits, with_period};
+ghost use Rattle.arbiters.specs.Periods.{longest};
+ghost use Rattle.delays.specs.Delays.{Answers, allowed, closings_until_left, longest_wait};
+ghost use Rattle.piles.specs.Fits.{period_fits};
 
 use refusals::Refusal;
 
@@ -38,7 +40,7 @@ impl Periods {
     fn check(self, ports: u8) -> Result<(), Refusal>
         ensures { result ≡ allowed ports self }
     {
-        if ports < 2 || ports > 8 {
+        if !(2..=8).contains(&ports) {
             return Err(Refusal::PortCount);
         }
         if fits(self.low) && fits(self.middle) && fits(self.high) {
@@ -53,13 +55,13 @@ impl Periods {
 fn fits(period: u8) -> bool
     ensures { result ≡ period_fits period }
 {
-    2 <= period && period <= 64
+    (2..=64).contains(&period)
 }
 
 /// The longest wait with a reservation of this period, from the longest without it.
 fn lengthened(wait: u8, period: u8) -> u8
     requires { (wait < 64) × (2 ≤ period) }
-    ensures { result ≡ with_period period wait }
+    ensures { result ≡ longest period wait }
 {
     wait + 1 + wait / (period - 1)
 }

@@ -8,8 +8,9 @@ ghost use Rattle.law.specs.Runs.{made};
 ghost use Rattle.switch.specs.Seen.{view};
 ghost use Rattle.std.specs.Prelude.{◌≡◌};
 
+use crate::making::pile;
 use crate::periods::Periods;
-use crate::piles::{Pile, pile};
+use piles::Pile;
 use refusals::Refusal;
 use switch::Switch;
 

@@ -56,9 +56,6 @@ impl<A: Deep> Deep for Reservation<A> {
 
     fn new(ports: u8, slots: u8) -> Result<Reservation<A>, Refusal> {
         let below = A::new(ports, slots)?;
-        match Reservation::new(below, slots) {
-            Ok(pile) => Ok(pile),
-            Err(e) => Err(e.why),
-        }
+        Ok(Reservation::new(below, slots)?)
     }
 }

@@ -13,16 +13,7 @@ pub fn pile_of_three(ports: u8, low: u8, middle: u8, high: u8) -> Result<Pile, R
     ensures { Piled ports low middle high result }
 {
     let diagonal = Diagonal::new(ports)?;
-    let first = match Reservation::new(diagonal, low) {
-        Ok(first) => first,
-        Err(e) => return Err(e.why),
-    };
-    let second = match Reservation::new(first, middle) {
-        Ok(second) => second,
-        Err(e) => return Err(e.why),
-    };
-    match Reservation::new(second, high) {
-        Ok(third) => Ok(third),
-        Err(e) => Err(e.why),
-    }
+    let lowest = Reservation::new(diagonal, low)?;
+    let second = Reservation::new(lowest, middle)?;
+    Ok(Reservation::new(second, high)?)
 }

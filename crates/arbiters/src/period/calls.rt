@@ -11,7 +11,7 @@ impl Period {
     pub fn new(slots: u8) -> Result<Period, Refusal>
         ensures { Made slots result }
     {
-        if slots < 2 || slots > 64 {
+        if !(2..=64).contains(&slots) {
             return Err(Refusal::PeriodRange);
         }
         Ok(Period {
@@ -42,11 +42,12 @@ impl Period {
     pub fn lengthen(self, wait: u16) -> u16
         ensures { result ≡ min (lengthened self.slots self.left wait) 65535 }
     {
-        if wait < self.left as u16 {
+        let left = u16::from(self.left);
+        if wait < left {
             return wait;
         }
-        let later = (wait - self.left as u16) / (self.slots - 1) as u16;
-        let sum = wait as u32 + 1 + later as u32;
-        if sum < 65535 { sum as u16 } else { 65535 }
+        let others = u16::from(self.slots - 1);
+        wait.saturating_add(1)
+            .saturating_add((wait - left) / others)
     }
 }

@@ -22,12 +22,7 @@ impl Reserved {
     pub fn is_taken(self, input: usize, output: usize) -> bool
         ensures { result ≡ by_another self.pairs input output }
     {
-        for other in 0..8 {
-            if other != input && self.pairs.has(other, output) {
-                return true;
-            }
-        }
-        false
+        (0..8).any(|other| other != input && self.pairs.has(other, output))
     }
 
     /// Reserves the output for the input, in place of what the input had.

@@ -1,7 +1,7 @@
 use Rattle.piles.proofs.Deeper.{deeper}
 use Rattle.piles.proofs.any_depth.ReservationDeep.new.Goals as goal
 
-pub returns-in-Ok : goal.returns-in-Ok
-returns-in-Ok g c =
+pub returns : goal.returns
+returns g c =
     deeper g.A.Deep.depth c.args.ports c.args.slots (g.A.Deep.lowest c.args.ports) (g.A.Deep.fresh c.args.ports c.args.slots) g.A.Arbiter.meaning
-    c.in_ok-below.below c.in-Ok.pile c.in_ok-below.ensures c.in-Ok.ensures
+    c.in_ok-below.below _ c.in_ok-below.ensures c.in_ok-new.ensures
