@@ -17,6 +17,7 @@ pub struct Sent {
 /// The cells that were sent in a slot, in the order in which they were sent.
 #[derive(Clone, Copy)]
 pub struct Departures {
+    // An array and a count, since an `ArrayVec` is not `Copy`.
     sent: [Sent; 8],
     count: usize,
     ghost few: { count ≤ 8 },

@@ -8,7 +8,7 @@ ghost use Rattle.switch.specs.Seen.{grant_of, view};
 
 use crate::departures::{Departures, Sent};
 use arbiters::Arbiter;
-use cells::CELL_BYTES;
+use cells::{CELL_BYTES, Cell};
 use law::{Block, Note};
 use switch::{GrantTicket, Switch};
 
@@ -16,17 +16,19 @@ use switch::{GrantTicket, Switch};
 pub(crate) const BLOCKS: usize = 16;
 
 /// The cell in the output's place of the slot bytes.
-fn cell_at(bytes: &[u8], output: u8) -> [u8; 53]
+fn cell_at(bytes: &[u8], output: u8) -> Cell
     requires { output * 53 + 53 ≤ length bytes.now }
     ensures { result ≡ part output bytes.now }
 {
     let start = output as usize * CELL_BYTES;
-    let mut cell = [0u8; 53];
-    cell.copy_from_slice(&bytes[start..start + CELL_BYTES]);
+    let Ok(cell) = Cell::try_from(&bytes[start..start + CELL_BYTES]) else {
+        unreachable()
+    };
     cell
 }
 
 /// Sends the next grant, if one is left, and takes its note there and then.
+// The memory comes part by part: of a struct whose three fields a call is lent at once, no proof knew the blocks afterwards.
 fn send_one<A: Arbiter>(
     switch: &mut Switch<A>,
     ports: u8,

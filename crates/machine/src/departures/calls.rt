@@ -9,12 +9,7 @@ use law::Note;
 /// What stands in a place to which nothing was sent.
 const NOTHING_SENT: Sent = Sent {
     output: 0,
-    note: Note {
-        slot: 0,
-        input: 0,
-        came: 0,
-        left: 0,
-    },
+    note: Note::EMPTY,
     cell: [0; 53],
 };
 

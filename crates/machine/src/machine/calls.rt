@@ -21,22 +21,14 @@ use switch::{ArrivalTicket, GrantTicket, Switch};
 fn empty_blocks() -> [Block; 128]
     ensures { result ≡ replicate 128 empty_block }
 {
-    [Block {
-        cell: [0; 53],
-        new_vci: 0,
-    }; 128]
+    [Block::EMPTY; 128]
 }
 
 /// Note memory in which no note was kept yet.
 fn empty_notes() -> [Note; 64]
     ensures { result ≡ replicate 64 empty_note }
 {
-    [Note {
-        slot: 0,
-        input: 0,
-        came: 0,
-        left: 0,
-    }; 64]
+    [Note::EMPTY; 64]
 }
 
 /// Slot bytes to which nothing was sent yet.

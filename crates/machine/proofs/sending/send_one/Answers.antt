@@ -18,7 +18,7 @@ cell_at-requires g c =
     let m = lent n c.args.blocks.now c.args.notes.now c.args.bytes.now in
     let sized : Sized n m = lent-sized n c.args.blocks.now c.args.notes.now c.args.bytes.now c.requires.eight c.told-blocks c.told-notes c.told-bytes in
     let bytes : n * 53 ≤ length c.args.bytes.now = omega (arith, c.requires.eight, c.told-bytes) in
-    let gone = gone-by v (view c.depart.new.self) n (grant_of c.args.grants.now) c.in-Ok.departed m _ sized c.requires (outputs-pairs c.args.switch.now.ports c.args.switch.now.grants) c.in-Ok.ensures in
+    let gone = gone-by v (view c.depart.new.self) n (grant_of c.args.grants.now) c.in-Ok.departed m _ sized c.requires (outputs-pairs c.args.switch.now.ports.number c.args.switch.now.grants) c.in-Ok.ensures in
     let whole = ap length (part-written (n * 53) c.args.bytes.now c.depart.new.bytes bytes c.depart.auto.bytes) in
     omega (arith, whole, sized.bytes, gone.output, c.requires.ports, c.depart.auto.bytes)
 
@@ -29,7 +29,7 @@ unreachable-requires g c =
     let w = view c.depart.new.self in
     let m = lent n c.args.blocks.now c.args.notes.now c.args.bytes.now in
     let sized : Sized n m = lent-sized n c.args.blocks.now c.args.notes.now c.args.bytes.now c.requires.eight c.told-blocks c.told-notes c.told-bytes in
-    let gone = gone-by v w n (grant_of c.args.grants.now) c.in-Ok.departed m _ sized c.requires (outputs-pairs c.args.switch.now.ports c.args.switch.now.grants) c.in-Ok.ensures in
+    let gone = gone-by v w n (grant_of c.args.grants.now) c.in-Ok.departed m _ sized c.requires (outputs-pairs c.args.switch.now.ports.number c.args.switch.now.grants) c.in-Ok.ensures in
     took_by w (view c.take_note.new.self) c.in-Ok.departed.output (record { cells = []; notes = c.depart.new.notes; bytes = [] }) _ (omega (arith, gone.output, gone.ports)) (c.depart.auto.notes ∙ c.told-notes) gone.waits (c.in-Err-take_note.ensures [] [])
 
 pub returns-in-Ok-take_note : goal.returns-in-Ok-take_note
@@ -42,7 +42,7 @@ returns-in-Ok-take_note g c =
     let sized : Sized n m = lent-sized n c.args.blocks.now c.args.notes.now c.args.bytes.now c.requires.eight c.told-blocks c.told-notes c.told-bytes in
     let bytes : n * 53 ≤ length c.args.bytes.now = omega (arith, c.requires.eight, c.told-bytes) in
     let d = c.in-Ok.departed in
-    let gone = gone-by v w n (grant_of c.args.grants.now) d m _ sized c.requires (outputs-pairs c.args.switch.now.ports c.args.switch.now.grants) c.in-Ok.ensures in
+    let gone = gone-by v w n (grant_of c.args.grants.now) d m _ sized c.requires (outputs-pairs c.args.switch.now.ports.number c.args.switch.now.grants) c.in-Ok.ensures in
     let took = took_by w z d.output (record { cells = []; notes = c.depart.new.notes; bytes = [] }) _ (omega (arith, gone.output, gone.ports)) (c.depart.auto.notes ∙ c.told-notes) gone.waits (c.in-Ok-take_note.ensures [] []) in
     let written = part-written (n * 53) c.args.bytes.now c.depart.new.bytes bytes c.depart.auto.bytes in
     record {
@@ -60,5 +60,5 @@ returns-in-Err g c =
     let sized : Sized n m = lent-sized n c.args.blocks.now c.args.notes.now c.args.bytes.now c.requires.eight c.told-blocks c.told-notes c.told-bytes in
     let bytes : n * 53 ≤ length c.args.bytes.now = omega (arith, c.requires.eight, c.told-bytes) in
     let same = subst (λ (o : Outcome _ Departed). Departure v m o.reply o.view o.memory) c.in-Err.ensures
-    (departs v m n (grant_of c.args.grants.now) sized c.requires (outputs-pairs c.args.switch.now.ports c.args.switch.now.grants)) in
+    (departs v m n (grant_of c.args.grants.now) sized c.requires (outputs-pairs c.args.switch.now.ports.number c.args.switch.now.grants)) in
     (none-sent (view c.depart.new.self) v _ m _ same.0 same.1 (part-written (n * 53) c.args.bytes.now c.depart.new.bytes bytes c.depart.auto.bytes), same.2)

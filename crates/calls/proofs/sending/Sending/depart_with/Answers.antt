@@ -9,5 +9,5 @@ pub invariant_of-self : goal.invariant_of-self
 invariant_of-self c =
     let s = c.args.self.now in
     record {
-      fits = (subst (λ o. Parting s.two.noted (view s.two.switch) o) c.depart.ensures (departs s.two.noted (view s.two.switch) s.two.kept (record { cells = c.args.blocks.now; notes = c.args.notes.now; bytes = c.args.bytes.now }) (grant_of s.ticket) (outputs-pairs s.two.switch.ports s.two.switch.grants))).fits Sending (grant_of s.ticket) ∙ s.fits;
+      fits = (subst (λ o. Parting s.two.noted (view s.two.switch) o) c.depart.ensures (departs s.two.noted (view s.two.switch) s.two.kept (record { cells = c.args.blocks.now; notes = c.args.notes.now; bytes = c.args.bytes.now }) (grant_of s.ticket) (outputs-pairs s.two.switch.ports.number s.two.switch.grants))).fits Sending (grant_of s.ticket) ∙ s.fits;
     }

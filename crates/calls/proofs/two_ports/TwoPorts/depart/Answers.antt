@@ -7,7 +7,7 @@ use Rattle.calls.proofs.two_ports.TwoPorts.depart.Goals as goal
 pub invariant_of-self : goal.invariant_of-self
 invariant_of-self c =
     let s = c.args.self.now in
-    let all = departs s.noted (view s.switch) s.kept (record { cells = c.args.blocks.now; notes = c.args.notes.now; bytes = c.args.bytes.now }) (grant_of c.args.ticket.now) (outputs-pairs s.switch.ports s.switch.grants) in
+    let all = departs s.noted (view s.switch) s.kept (record { cells = c.args.blocks.now; notes = c.args.notes.now; bytes = c.args.bytes.now }) (grant_of c.args.ticket.now) (outputs-pairs s.switch.ports.number s.switch.grants) in
     record {
       kept = subst (λ r. Left s.noted (view c.depart.new.self) r) c.in_err-departed.was (subst (λ o. Parting s.noted (view s.switch) o) c.depart.ensures all).kept;
     }
@@ -15,7 +15,7 @@ invariant_of-self c =
 pub invariant_of-self-2 : goal.invariant_of-self-2
 invariant_of-self-2 c =
     let s = c.args.self.now in
-    let all = departs s.noted (view s.switch) s.kept (record { cells = c.args.blocks.now; notes = c.args.notes.now; bytes = c.args.bytes.now }) (grant_of c.args.ticket.now) (outputs-pairs s.switch.ports s.switch.grants) in
+    let all = departs s.noted (view s.switch) s.kept (record { cells = c.args.blocks.now; notes = c.args.notes.now; bytes = c.args.bytes.now }) (grant_of c.args.ticket.now) (outputs-pairs s.switch.ports.number s.switch.grants) in
     record {
       kept = subst (λ r. Left s.noted (view c.depart.new.self) r) c.in_ok-departed.was (subst (λ o. Parting s.noted (view s.switch) o) c.depart.ensures all).kept;
     }
