@@ -3,8 +3,6 @@
 //! A recording whose name ends with (no last line feed) has no 0A at its end.
 #![tactic(auto)]
 
-ghost use Rattle.std.specs.Prelude.{◌<◌, ◌≤◌, length};
-
 use player::Player;
 use std::alloc::{AllocError, Global};
 use std::io::{BufReader, BufWriter, Read, Write};
@@ -16,38 +14,12 @@ const NO_LAST_LINE_FEED: &[u8] = b"(no last line feed)\n";
 /// The sizes of the pieces, the first larger than any recording.
 const SIZES: [usize; 6] = [1_000_000, 1, 2, 7, 64, 111];
 
-/// Where the line that begins at this place ends, its 0A included.
-fn line_end(text: &[u8], at: usize) -> usize
-    requires { at < length text.now }
-    ensures { (at < result) × (result ≤ length text.now) }
-{
-    for i in at..text.len() {
-        if text[i] == LINE_FEED {
-            return i + 1;
-        }
-    }
-    text.len()
-}
-
-/// Feeds a player with a piece, to its end.
-fn feed_all(player: &mut Player, piece: &[u8], out: &mut Vec<u8>) -> Result<(), AllocError> {
-    let mut at = 0;
-    while at < piece.len() {
-        let used = player.feed(&piece[at..], out)?;
-        at += used;
-    }
-    Ok(())
-}
-
 /// What a recording comes to, played in pieces of this size.
 fn played(heap: Global, recording: &[u8], size: usize) -> Result<Vec<u8>, AllocError> {
     let mut out = Vec::new(heap);
     let mut player = Player::new(heap);
-    let mut at = 0;
-    while at < recording.len() {
-        let end = at.saturating_add(size.max(1)).min(recording.len());
-        feed_all(&mut player, &recording[at..end], &mut out)?;
-        at = end;
+    for piece in recording.chunks(size.max(1)) {
+        player.feed_all(piece, &mut out)?;
     }
     player.finish(&mut out)?;
     Ok(out)
@@ -55,10 +27,9 @@ fn played(heap: Global, recording: &[u8], size: usize) -> Result<Vec<u8>, AllocE
 
 /// The recording without its last 0A, if its name says so.
 fn as_named<'a>(name: &[u8], recording: &'a [u8]) -> &'a [u8] {
-    if name.ends_with(NO_LAST_LINE_FEED) && recording.len() > 0 {
-        &recording[0..recording.len() - 1]
-    } else {
-        recording
+    match recording.split_last() {
+        Some((_, front)) if name.ends_with(NO_LAST_LINE_FEED) => front,
+        _ => recording,
     }
 }
 
@@ -70,7 +41,7 @@ fn show<W: Write>(heap: Global, name: &[u8], recording: &[u8], out: &mut W) -> a
     out.write_all(&whole)?;
     for size in SIZES {
         let again = played(heap, recording, size)?;
-        if again.as_slice() != whole.as_slice() {
+        if again != whole {
             writeln!(out, "in pieces of {size} it comes to something else")?;
         }
     }
@@ -79,25 +50,20 @@ fn show<W: Write>(heap: Global, name: &[u8], recording: &[u8], out: &mut W) -> a
 
 /// Plays all recordings of a text.
 fn show_all<W: Write>(heap: Global, text: &[u8], out: &mut W) -> anyhow::Result<()> {
-    let mut name = Vec::new(heap);
+    let mut name: &[u8] = &[];
     let mut recording = Vec::new(heap);
-    let mut at = 0;
-    while at < text.len() {
-        let end = line_end(text, at);
-        let line = &text[at..end];
+    for line in text.split_inclusive(|byte| *byte == LINE_FEED) {
         if line.starts_with(b"# ") {
-            if name.len() > 0 {
-                show(heap, &name, &recording, out)?;
+            if !name.is_empty() {
+                show(heap, name, &recording, out)?;
             }
-            name.clear();
+            name = line;
             recording.clear();
-            name.extend_from_slice(line)?;
         } else {
             recording.extend_from_slice(line)?;
         }
-        at = end;
     }
-    show(heap, &name, &recording, out)
+    show(heap, name, &recording, out)
 }
 
 fn run(rt: &HostRuntime) -> anyhow::Result<()> {
