@@ -10,20 +10,9 @@ use routes::Route;
 impl<A: Arbiter> Switch<A> {
     /// Sets a route of an input: later cells of this VCI go to the output and leave with the new VCI. The route that the
     /// VCI had is replaced.
-    pub fn set_route(
-        &mut self,
-        input: u8,
-        vci: u16,
-        output: u8,
-        new_vci: u16,
-    ) -> Result<(), Refusal>
-        ensures { SetsRoute self.old input vci output new_vci result self.new }
+    pub fn set_route(&mut self, input: u8, route: Route) -> Result<(), Refusal>
+        ensures { SetsRoute self.old input route.vci route.output route.new_vci result self.new }
     {
-        let route = Route {
-            vci,
-            output,
-            new_vci,
-        };
         self.routes.set(self.ports.number(), input, route)
     }
 

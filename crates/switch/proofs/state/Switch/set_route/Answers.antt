@@ -8,4 +8,4 @@ use Rattle.switch.proofs.state.Switch.set_route.Goals as goal
 pub returns : goal.returns
 returns g c m =
     let v = view c.args.self.now in
-    ap (rerouted v m) (sym (c.set.ensures.outcome ∙ ap (λ (n : ℕ). setting v.tables n c.args.input (record { vci = c.args.vci; output = c.args.output; new_vci = c.args.new_vci })) c.number.ensures)) ∙ rerouted-told v m c.set.result c.args.self.now.routes c.set.new.self refl c.set.ensures.kept
+    ap (rerouted v m) (sym (c.set.ensures.outcome ∙ ap (λ (n : ℕ). setting v.tables n c.args.input c.args.route) c.number.ensures)) ∙ rerouted-told v m c.set.result c.args.self.now.routes c.set.new.self refl c.set.ensures.kept
