@@ -15,6 +15,7 @@ use crate::sending::{BLOCKS, send_all};
 use arbiters::Arbiter;
 use law::{Arrival, Block, Note};
 use refusals::Refusal;
+use routes::Route;
 use switch::{ArrivalTicket, GrantTicket, Switch};
 
 /// Cell memory in which nothing was stored yet.
@@ -63,16 +64,10 @@ impl<A: Arbiter> Machine<A> {
     }
 
     /// Sets a route of an input.
-    pub fn set_route(
-        &mut self,
-        input: u8,
-        vci: u16,
-        output: u8,
-        new_vci: u16,
-    ) -> Result<(), Refusal>
-        ensures { telling result self.new ≡ routing (standing self.old) input vci output new_vci }
+    pub fn set_route(&mut self, input: u8, route: Route) -> Result<(), Refusal>
+        ensures { telling result self.new ≡ routing (standing self.old) input route.vci route.output route.new_vci }
     {
-        self.switch.set_route(input, vci, output, new_vci)
+        self.switch.set_route(input, route)
     }
 
     /// Takes up the ticket of the open slot. Where no slot is open, the next is opened.

@@ -9,7 +9,7 @@ invariant_of-self g c =
     let s = c.args.self.now in
     let v = view s.switch in
     let w = view c.set_route.new.self in
-    let steady = subst (λ o. Steady v o) (c.set_route.ensures nothing) (sets v nothing c.args.input c.args.vci c.args.output c.args.new_vci) in
+    let steady = subst (λ o. Steady v o) (c.set_route.ensures nothing) (sets v nothing c.args.input c.args.route.vci c.args.route.output c.args.route.new_vci) in
     record {
       few = s.few;
       counted = steady.ports ∙ s.counted;
