@@ -1,12 +1,13 @@
 -- What an attempt to close leaves.
-use Rattle.std.specs.Prelude.{◌≡◌, ◌≤◌, length}
+use Rattle.std.specs.Prelude.{◌≡◌, ◌≤◌, length, Ok, Err, Result}
 use Rattle.arbiters.specs.declared.diagonal.Diagonal.{Diagonal}
+use Rattle.law.specs.declared.answers.SlotClosed.{SlotClosed}
 use Rattle.law.specs.View.{View}
 use Rattle.switch.specs.Seen.{view}
-use Rattle.calls.specs.declared.sending.Closing.{Closing}
-use Rattle.calls.specs.declared.sending.Closing.TheVariants.{Closed, Refused}
+use Rattle.calls.specs.declared.sending.Unclosed.{Unclosed}
+use Rattle.calls.specs.declared.two_ports.TwoPorts.{TwoPorts}
 
 -- refused, the switch is as it was, with a grant left to send
-abbrev pub Unclosed : View Diagonal → Closing → Type 0
-Unclosed v (Closed two x) = Unit {0}
-Unclosed v (Refused s k) = (view s.two.switch ≡ v) × (1 ≤ length v.slot.grants)
+abbrev pub LeavesGrants : View Diagonal → Result (TwoPorts × SlotClosed) Unclosed → Type 0
+LeavesGrants v (Ok x) = Unit {0}
+LeavesGrants v (Err e) = (view e.sending.two.switch ≡ v) × (1 ≤ length v.slot.grants)

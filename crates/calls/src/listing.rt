@@ -1,6 +1,5 @@
 //! What the program writes.
 
-use crate::answers::Answer;
 use refusals::Refusal;
 use std::io::Write;
 use std::{fmt, io};
@@ -28,15 +27,16 @@ impl<W: Write + Drop> Listing<W> {
     }
 
     /// A line for a call, with what it answered.
-    pub fn told<T: Answer>(&mut self, call: &str, answer: &Result<T, Refusal>) {
+    pub fn told<T: fmt::Display>(&mut self, call: &str, answer: &Result<T, Refusal>) {
         match answer {
-            Ok(value) => {
-                write!(self, "{call}: ");
-                value.tell(self);
-                writeln!(self);
-            }
+            Ok(value) => writeln!(self, "{call}: {value}"),
             Err(refusal) => self.refused(call, *refusal),
         }
+    }
+
+    /// A line for a call that answers nothing.
+    pub fn done(&mut self, call: &str, answer: Result<(), Refusal>) {
+        self.told(call, &answer.map(|()| "done"));
     }
 
     /// A line of bytes, two digits each.

@@ -1,7 +1,6 @@
 //! Drives the switch through every call and every refusal, chapter by chapter, and writes what each call answered.
 #![tactic(auto)]
 
-mod answers;
 mod chapters;
 mod listing;
 mod memory;

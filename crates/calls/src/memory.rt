@@ -1,10 +1,11 @@
 //! The memory that is lent to a switch of two ports, and cells to put into it.
 
+use cells::{CELL_BYTES, Cell};
 use law::{Block, Note};
 
 /// A block in which no cell has been stored yet.
 pub const NO_BLOCK: Block = Block {
-    cell: [0; 53],
+    cell: [0; CELL_BYTES],
     new_vci: 0,
 };
 
@@ -35,26 +36,23 @@ impl Memory {
 }
 
 /// A cell with these first four bytes, and another byte in all other places.
-pub fn cell(head: [u8; 4], fill: u8) -> [u8; 53] {
-    let mut cell = [fill; 53];
-    cell[0] = head[0];
-    cell[1] = head[1];
-    cell[2] = head[2];
-    cell[3] = head[3];
+pub fn cell(head: [u8; 4], fill: u8) -> Cell {
+    let mut cell = [fill; CELL_BYTES];
+    cell[..4].copy_from_slice(&head);
     cell
 }
 
 /// The idle cell.
-pub fn idle_cell() -> [u8; 53] {
+pub fn idle_cell() -> Cell {
     cell([0, 0, 0, 1], 0x00)
 }
 
 /// A cell of the circuit 2345.
-pub fn cell_2345(fill: u8) -> [u8; 53] {
+pub fn cell_2345(fill: u8) -> Cell {
     cell([0x00, 0x12, 0x34, 0x56], fill)
 }
 
 /// A cell of the circuit 0999.
-pub fn cell_0999(fill: u8) -> [u8; 53] {
+pub fn cell_0999(fill: u8) -> Cell {
     cell([0x00, 0x10, 0x99, 0x90], fill)
 }

@@ -6,7 +6,6 @@ ghost use Rattle.switch.specs.Seen.{grant_of, view};
 ghost use Rattle.std.specs.Prelude.{◌≡◌, false};
 
 use crate::two_ports::TwoPorts;
-use law::SlotClosed;
 use refusals::Refusal;
 use switch::{ArrivalTicket, GrantTicket};
 
@@ -27,8 +26,8 @@ pub struct Undecided {
     pub refusal: Refusal,
 }
 
-/// What came of an attempt to close.
-pub enum Closing {
-    Closed(TwoPorts, SlotClosed),
-    Refused(Sending, Refusal),
+/// A close that was refused: the switch, which sends still, and why.
+pub struct Unclosed {
+    pub sending: Sending,
+    pub refusal: Refusal,
 }

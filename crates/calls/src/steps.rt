@@ -1,9 +1,10 @@
 //! Steps that several chapters take.
 
 use crate::listing::Listing;
-use crate::memory::Memory;
-use crate::sending::{Closing, Sending};
+use crate::memory::{Memory, cell_2345};
+use crate::sending::{Sending, Unclosed};
 use crate::two_ports::TwoPorts;
+use law::SlotClosed;
 use refusals::Refusal;
 use std::io::Write;
 use switch::ArrivalTicket;
@@ -24,30 +25,32 @@ pub fn decided<W: Write + Drop>(
     ticket: ArrivalTicket,
     out: &mut Listing<W>,
 ) -> Result<Sending, Refusal> {
-    match Sending::decide(two, ticket) {
-        Ok(sending) => {
-            writeln!(out, "decide: grant ticket");
-            Ok(sending)
-        }
-        Err(undecided) => {
-            out.refused("decide", undecided.refusal);
-            Err(undecided.refusal)
-        }
+    let answer = Sending::decide(two, ticket).map_err(|undecided| undecided.refusal);
+    match &answer {
+        Ok(_) => writeln!(out, "decide: grant ticket"),
+        Err(refusal) => out.refused("decide", *refusal),
     }
+    answer
 }
 
-/// Tries to close the slot, and has the ticket back if that is refused.
-pub fn closed_early<W: Write + Drop>(
-    sending: Sending,
+/// A departure.
+pub fn departed<W: Write + Drop>(sending: &mut Sending, memory: &mut Memory, out: &mut Listing<W>) {
+    out.told("depart", &sending.depart(memory));
+}
+
+/// Tells of a close that is to be refused, and has the switch back that sends still.
+pub fn unclosed<W: Write + Drop>(
+    call: &str,
+    closing: Result<(TwoPorts, SlotClosed), Unclosed>,
     out: &mut Listing<W>,
 ) -> Result<Sending, TwoPorts> {
-    match sending.close() {
-        Closing::Closed(two, closed) => {
-            out.told("close", &Ok(closed));
+    match closing {
+        Ok((two, closed)) => {
+            out.told(call, &Ok(closed));
             Err(two)
         }
-        Closing::Refused(sending, refusal) => {
-            out.refused("close", refusal);
+        Err(Unclosed { sending, refusal }) => {
+            out.refused(call, refusal);
             Ok(sending)
         }
     }
@@ -62,6 +65,22 @@ pub fn closed<W: Write + Drop>(
     let (two, closed) = sending.finish(memory);
     out.told("close", &Ok(closed));
     two
+}
+
+/// A slot in which both inputs get a cell.
+pub fn arrived(two: &mut TwoPorts, memory: &mut Memory) -> Result<ArrivalTicket, Refusal> {
+    let ticket = two.open()?;
+    let _ = two.arrive(&ticket, 0, &cell_2345(0x6A), &mut memory.blocks);
+    let _ = two.arrive(&ticket, 1, &cell_2345(0x6A), &mut memory.blocks);
+    Ok(ticket)
+}
+
+/// Such a slot from its opening to its close, with nothing told.
+pub fn passed(mut two: TwoPorts, memory: &mut Memory) -> Result<TwoPorts, Refusal> {
+    let ticket = arrived(&mut two, memory)?;
+    let sending = Sending::decide(two, ticket).map_err(|undecided| undecided.refusal)?;
+    let (two, _) = sending.finish(memory);
+    Ok(two)
 }
 
 /// The line of an output.
@@ -88,8 +107,5 @@ pub fn sent_line<'a, W: Write + Drop>(
     out: &mut Listing<W>,
 ) {
     write!(out, "line of output {output}");
-    match sending.line(output, bytes, idle) {
-        Ok(line) => out.bytes("", line),
-        Err(refusal) => out.refused("", refusal),
-    }
+    line_told("", sending.two(), output, bytes, idle, out);
 }

@@ -2,7 +2,7 @@
 
 use crate::listing::Listing;
 use crate::memory::{Memory, cell_2345, idle_cell};
-use crate::steps::{closed, decided, opened, sent_line};
+use crate::steps::{closed, decided, departed, opened, sent_line};
 use crate::two_ports::TwoPorts;
 use refusals::Refusal;
 use std::io::Write;
@@ -13,16 +13,16 @@ pub fn routes_changed<W: Write + Drop>(out: &mut Listing<W>) -> Result<(), Refus
     writeln!(out, "== routes changed while cells wait ==");
     let mut two = TwoPorts::new(7, 1)?;
     let mut memory = Memory::new();
-    out.told(
+    out.done(
         "set at input 0: 2345 to output 1 as AAAA",
-        &two.set_route(0, 0x2345, 1, 0xAAAA),
+        two.set_route(0, 0x2345, 1, 0xAAAA),
     );
     let ticket = opened(&mut two, out)?;
     let answer = two.arrive(&ticket, 0, &cell_2345(0x01), &mut memory.blocks);
     out.told("arrive at input 0: 2345", &answer);
-    out.told(
+    out.done(
         "set at input 0: 2345 to output 0 as BBBB",
-        &two.set_route(0, 0x2345, 0, 0xBBBB),
+        two.set_route(0, 0x2345, 0, 0xBBBB),
     );
     let two = sent_on(two, ticket, 1, &mut memory, out)?;
     removed(two, &mut memory, out)
@@ -37,7 +37,7 @@ fn removed<W: Write + Drop>(
     let ticket = opened(&mut two, out)?;
     let answer = two.arrive(&ticket, 0, &cell_2345(0x02), &mut memory.blocks);
     out.told("arrive at input 0: 2345", &answer);
-    out.told("remove at input 0: 2345", &two.remove_route(0, 0x2345));
+    out.done("remove at input 0: 2345", two.remove_route(0, 0x2345));
     let mut two = sent_on(two, ticket, 0, memory, out)?;
     let ticket = opened(&mut two, out)?;
     let answer = two.arrive(&ticket, 0, &cell_2345(0x03), &mut memory.blocks);
@@ -54,10 +54,7 @@ fn sent_on<W: Write + Drop>(
     out: &mut Listing<W>,
 ) -> Result<TwoPorts, Refusal> {
     let mut sending = decided(two, ticket, out)?;
-    out.told(
-        "depart",
-        &sending.depart(&memory.blocks, &mut memory.notes, &mut memory.bytes),
-    );
+    departed(&mut sending, memory, out);
     let idle = idle_cell();
     sent_line(&sending, output, &memory.bytes, &idle, out);
     out.told(

@@ -2,8 +2,7 @@
 
 use crate::listing::Listing;
 use crate::memory::{Memory, cell_0999, cell_2345};
-use crate::sending::Sending;
-use crate::steps::{closed, decided, opened};
+use crate::steps::{closed, decided, departed, opened, passed};
 use crate::two_ports::TwoPorts;
 use refusals::Refusal;
 use std::io::Write;
@@ -20,10 +19,10 @@ pub fn seventeenth_cell<W: Write + Drop>(out: &mut Listing<W>) -> Result<(), Ref
         out,
         "in every slot a cell arrives at input 0 and one at input 1, both for output 1"
     );
-    for _ in 0..29 {
-        two = contended(two, &mut memory)?;
-    }
     let slots = 29;
+    for _ in 0..slots {
+        two = passed(two, &mut memory)?;
+    }
     writeln!(out, "{slots} slots later:");
     let two = crowded(two, &mut memory, out)?;
     let two = crowded(two, &mut memory, out)?;
@@ -32,21 +31,7 @@ pub fn seventeenth_cell<W: Write + Drop>(out: &mut Listing<W>) -> Result<(), Ref
     Ok(())
 }
 
-/// A slot in which both inputs get a cell for output 1.
-fn contended(mut two: TwoPorts, memory: &mut Memory) -> Result<TwoPorts, Refusal> {
-    let ticket = two.open()?;
-    let _ = two.arrive(&ticket, 0, &cell_2345(0x6A), &mut memory.blocks);
-    let _ = two.arrive(&ticket, 1, &cell_2345(0x6A), &mut memory.blocks);
-    match Sending::decide(two, ticket) {
-        Ok(sending) => {
-            let (two, _) = sending.finish(memory);
-            Ok(two)
-        }
-        Err(undecided) => Err(undecided.refusal),
-    }
-}
-
-/// The same, told call by call: a cell without a route is refused for that, full or not.
+/// Such a slot, told call by call: a cell without a route is refused for that, full or not.
 fn crowded<W: Write + Drop>(
     mut two: TwoPorts,
     memory: &mut Memory,
@@ -66,9 +51,6 @@ fn crowded<W: Write + Drop>(
         &two.arrive(&ticket, 1, &cell_2345(0x6A), &mut memory.blocks),
     );
     let mut sending = decided(two, ticket, out)?;
-    out.told(
-        "depart",
-        &sending.depart(&memory.blocks, &mut memory.notes, &mut memory.bytes),
-    );
+    departed(&mut sending, memory, out);
     Ok(closed(sending, memory, out))
 }

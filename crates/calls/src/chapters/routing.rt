@@ -11,46 +11,46 @@ use std::io::Write;
 pub fn routes<W: Write + Drop>(out: &mut Listing<W>) -> Result<(), Refusal> {
     writeln!(out, "== routes ==");
     let mut two = TwoPorts::new(7, 1)?;
-    out.told(
+    out.done(
         "set at input 2: 2345 to output 0 as 1111",
-        &two.set_route(2, 0x2345, 0, 0x1111),
+        two.set_route(2, 0x2345, 0, 0x1111),
     );
-    out.told(
+    out.done(
         "set at input 0: 2345 to output 2 as 1111",
-        &two.set_route(0, 0x2345, 2, 0x1111),
+        two.set_route(0, 0x2345, 2, 0x1111),
     );
-    out.told(
+    out.done(
         "set at input 0: 2345 to output 0 as 1111",
-        &two.set_route(0, 0x2345, 0, 0x1111),
+        two.set_route(0, 0x2345, 0, 0x1111),
     );
-    out.told("remove at input 0: 2346", &two.remove_route(0, 0x2346));
-    out.told("remove at input 2: 2346", &two.remove_route(2, 0x2346));
+    out.done("remove at input 0: 2346", two.remove_route(0, 0x2346));
+    out.done("remove at input 2: 2346", two.remove_route(2, 0x2346));
     let more = more_routes(&mut two);
     writeln!(
         out,
         "set at input 0: 0100 to 011E to output 1: done {more} times"
     );
-    out.told(
+    out.done(
         "set at input 0: 2346 to output 1 as 2222",
-        &two.set_route(0, 0x2346, 1, 0x2222),
+        two.set_route(0, 0x2346, 1, 0x2222),
     );
-    out.told(
+    out.done(
         "set at input 0: 2346 to output 2 as 2222",
-        &two.set_route(0, 0x2346, 2, 0x2222),
+        two.set_route(0, 0x2346, 2, 0x2222),
     );
-    out.told(
+    out.done(
         "set at input 0: 2345 to output 1 as BEEF",
-        &two.set_route(0, 0x2345, 1, 0xBEEF),
+        two.set_route(0, 0x2345, 1, 0xBEEF),
     );
-    out.told(
+    out.done(
         "set at input 1: 2346 to output 1 as 2222",
-        &two.set_route(1, 0x2346, 1, 0x2222),
+        two.set_route(1, 0x2346, 1, 0x2222),
     );
-    out.told("remove at input 0: 0100", &two.remove_route(0, 0x0100));
-    out.told("remove at input 0: 0100", &two.remove_route(0, 0x0100));
-    out.told(
+    out.done("remove at input 0: 0100", two.remove_route(0, 0x0100));
+    out.done("remove at input 0: 0100", two.remove_route(0, 0x0100));
+    out.done(
         "set at input 0: 2346 to output 1 as 2222",
-        &two.set_route(0, 0x2346, 1, 0x2222),
+        two.set_route(0, 0x2346, 1, 0x2222),
     );
     let mut memory = Memory::new();
     let ticket = opened(&mut two, out)?;
@@ -63,7 +63,7 @@ pub fn routes<W: Write + Drop>(out: &mut Listing<W>) -> Result<(), Refusal> {
 fn more_routes(two: &mut TwoPorts) -> u8 {
     let mut set = 0;
     for k in 0..31u8 {
-        if two.set_route(0, 0x0100 + k as u16, 1, 0x0200).is_ok() {
+        if two.set_route(0, 0x0100 + u16::from(k), 1, 0x0200).is_ok() {
             set = k + 1;
         }
     }

@@ -3,7 +3,7 @@
 use crate::listing::Listing;
 use crate::memory::{Memory, NO_BLOCK, NO_NOTE, cell_0999, cell_2345, idle_cell};
 use crate::sending::Sending;
-use crate::steps::{closed, closed_early, decided, line_told, opened, sent_line};
+use crate::steps::{closed, decided, departed, line_told, opened, sent_line, unclosed};
 use crate::two_ports::TwoPorts;
 use refusals::Refusal;
 use std::io::Write;
@@ -21,10 +21,9 @@ pub fn slot_from_open_to_close<W: Write + Drop>(out: &mut Listing<W>) -> Result<
     looks(&two, &mut memory, out);
     lines_before(&two, &memory, out);
     let sending = decided(two, ticket, out)?;
-    let Ok(sending) = closed_early(sending, out) else {
+    let Ok(mut sending) = unclosed("close", sending.close(), out) else {
         return Ok(());
     };
-    let mut sending = sending;
     departures(&mut sending, &mut memory, out);
     notes_taken(&mut sending, &mut memory, out);
     let two = closed(sending, &mut memory, out);
@@ -77,30 +76,30 @@ fn looks<W: Write + Drop>(two: &TwoPorts, memory: &mut Memory, out: &mut Listing
     let mut bytes = [0xFF; 53];
     let mut short = [0xFF; 52];
     let mut few = [NO_BLOCK; 31];
-    out.told(
+    out.done(
         "look at input 0, output 2, 31 cell blocks",
-        &two.look(0, 2, &mut few, &mut bytes),
+        two.look(0, 2, &mut few, &mut bytes),
     );
-    out.told(
+    out.done(
         "look at input 0, output 1, 31 cell blocks, 52 bytes",
-        &two.look(0, 1, &mut few, &mut short),
+        two.look(0, 1, &mut few, &mut short),
     );
-    out.told(
+    out.done(
         "look at input 0, output 1, 52 bytes",
-        &two.look(0, 1, &mut memory.blocks, &mut short),
+        two.look(0, 1, &mut memory.blocks, &mut short),
     );
-    out.told(
+    out.done(
         "look at input 0, output 0, 52 bytes",
-        &two.look(0, 0, &mut memory.blocks, &mut short),
+        two.look(0, 0, &mut memory.blocks, &mut short),
     );
-    out.told(
+    out.done(
         "look at input 0, output 0",
-        &two.look(0, 0, &mut memory.blocks, &mut bytes),
+        two.look(0, 0, &mut memory.blocks, &mut bytes),
     );
     out.bytes("the bytes looked into", &bytes);
-    out.told(
+    out.done(
         "look at input 0, output 1",
-        &two.look(0, 1, &mut memory.blocks, &mut bytes),
+        two.look(0, 1, &mut memory.blocks, &mut bytes),
     );
     out.bytes("the bytes looked into", &bytes);
     out.bytes("the cell in its block", &memory.blocks[0].cell);
@@ -138,30 +137,24 @@ fn departures<W: Write + Drop>(sending: &mut Sending, memory: &mut Memory, out: 
     let idle = idle_cell();
     out.told(
         "depart, 31 cell blocks, 63 note blocks, 105 slot bytes",
-        &sending.depart(&few, &mut few_notes, &mut few_bytes),
+        &sending.depart_with(&few, &mut few_notes, &mut few_bytes),
     );
     out.told(
         "depart, 63 note blocks, 105 slot bytes",
-        &sending.depart(&memory.blocks, &mut few_notes, &mut few_bytes),
+        &sending.depart_with(&memory.blocks, &mut few_notes, &mut few_bytes),
     );
     out.told(
         "depart, 105 slot bytes",
-        &sending.depart(&memory.blocks, &mut memory.notes, &mut few_bytes),
+        &sending.depart_with(&memory.blocks, &mut memory.notes, &mut few_bytes),
     );
     sent_line(sending, 1, &memory.bytes, &idle, out);
-    out.told(
-        "depart",
-        &sending.depart(&memory.blocks, &mut memory.notes, &mut memory.bytes),
-    );
+    departed(sending, memory, out);
     sent_line(sending, 1, &memory.bytes, &idle, out);
     sent_line(sending, 0, &memory.bytes, &idle, out);
-    out.told(
-        "depart",
-        &sending.depart(&memory.blocks, &mut memory.notes, &mut memory.bytes),
-    );
+    departed(sending, memory, out);
     out.told(
         "depart, 31 cell blocks",
-        &sending.depart(&few, &mut memory.notes, &mut memory.bytes),
+        &sending.depart_with(&few, &mut memory.notes, &mut memory.bytes),
     );
 }
 
@@ -199,9 +192,9 @@ fn lines_after<W: Write + Drop>(
     let ticket = opened(&mut two, out)?;
     kept_line(&two, memory, out);
     let mut bytes = [0; 53];
-    out.told(
+    out.done(
         "look at input 0, output 1",
-        &two.look(0, 1, &mut memory.blocks, &mut bytes),
+        two.look(0, 1, &mut memory.blocks, &mut bytes),
     );
     let sending = decided(two, ticket, out)?;
     let idle = idle_cell();

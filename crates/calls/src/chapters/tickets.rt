@@ -2,8 +2,8 @@
 
 use crate::listing::Listing;
 use crate::memory::{Memory, NO_BLOCK, cell_2345};
-use crate::sending::{Closing, Sending, Undecided};
-use crate::steps::{closed, decided, opened};
+use crate::sending::{Sending, Undecided};
+use crate::steps::{closed, decided, departed, opened, unclosed};
 use crate::two_ports::TwoPorts;
 use refusals::Refusal;
 use std::io::Write;
@@ -30,10 +30,7 @@ pub fn tickets_of_others<W: Write + Drop>(out: &mut Listing<W>) -> Result<(), Re
     let Ok(mut sending) = elsewhere(sending, &mut other, &mut memory, out) else {
         return Ok(());
     };
-    out.told(
-        "depart",
-        &sending.depart(&memory.blocks, &mut memory.notes, &mut memory.bytes),
-    );
+    departed(&mut sending, &mut memory, out);
     let _ = closed(sending, &mut memory, out);
     Ok(())
 }
@@ -134,14 +131,9 @@ fn elsewhere<W: Write + Drop>(
         &mut memory.bytes,
     );
     out.told("depart at the switch of mark 8", &answer);
-    match sending.close_at(other) {
-        Closing::Closed(two, closed) => {
-            out.told("close at the switch of mark 8", &Ok(closed));
-            Err(two)
-        }
-        Closing::Refused(sending, refusal) => {
-            out.refused("close at the switch of mark 8", refusal);
-            Ok(sending)
-        }
-    }
+    unclosed(
+        "close at the switch of mark 8",
+        sending.close_at(other),
+        out,
+    )
 }

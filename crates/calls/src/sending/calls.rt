@@ -1,12 +1,12 @@
 //! The calls while grants are sent.
 
 ghost use Rattle.std.specs.Prelude.{◌<◌, ◌≤◌, length};
-ghost use Rattle.calls.specs.Ends.{Unclosed};
+ghost use Rattle.calls.specs.Ends.{LeavesGrants};
 ghost use Rattle.calls.specs.Kept.{weight};
 ghost use Rattle.switch.specs.Seen.{view};
 
 use crate::memory::Memory;
-use crate::sending::{Closing, Sending, Undecided};
+use crate::sending::{Sending, Unclosed, Undecided};
 use crate::two_ports::TwoPorts;
 use law::{Arrival, Block, Departed, Note, SlotClosed};
 use refusals::Refusal;
@@ -25,18 +25,29 @@ impl Sending {
         }
     }
 
+    /// The switch that sends.
+    pub fn two(&self) -> &TwoPorts {
+        &self.two
+    }
+
     /// The grant ticket, to show at another switch.
     pub fn ticket(&self) -> &GrantTicket {
         &self.ticket
     }
 
-    pub fn depart(
+    /// Sends a grant in memory of any lengths.
+    pub fn depart_with(
         &mut self,
         blocks: &[Block],
         notes: &mut [Note],
         bytes: &mut [u8],
     ) -> Result<Departed, Refusal> {
         self.two.depart(&self.ticket, blocks, notes, bytes)
+    }
+
+    /// Sends a grant.
+    pub fn depart(&mut self, memory: &mut Memory) -> Result<Departed, Refusal> {
+        self.depart_with(&memory.blocks, &mut memory.notes, &mut memory.bytes)
     }
 
     pub fn take_note(&mut self, output: u8, notes: &[Note]) -> Result<Note, Refusal> {
@@ -53,50 +64,42 @@ impl Sending {
         self.two.arrive(ticket, input, cell, blocks)
     }
 
-    pub fn set_route(
-        &mut self,
-        input: u8,
-        vci: u16,
-        output: u8,
-        new_vci: u16,
-    ) -> Result<(), Refusal> {
-        self.two.set_route(input, vci, output, new_vci)
-    }
-
-    pub fn line<'a>(
-        &self,
-        output: u8,
-        bytes: &'a [u8],
-        idle: &'a [u8],
-    ) -> Result<&'a [u8], Refusal> {
-        self.two.line(output, bytes, idle)
-    }
-
     /// Closes the slot, if its grants are all sent.
-    pub fn close(self) -> Closing
-        ensures { Unclosed (view self.two.switch) result }
+    pub fn close(self) -> Result<(TwoPorts, SlotClosed), Unclosed>
+        ensures { LeavesGrants (view self.two.switch) result }
     {
         let Sending { mut two, ticket } = self;
         match two.close(ticket) {
-            Ok(closed) => Closing::Closed(two, closed),
-            Err(Returned { refusal, ticket }) => Closing::Refused(Sending { two, ticket }, refusal),
+            Ok(closed) => Ok((two, closed)),
+            Err(Returned { refusal, ticket }) => Err(Unclosed {
+                sending: Sending { two, ticket },
+                refusal,
+            }),
         }
     }
 
     /// Hands the ticket to another switch's `close`.
-    pub fn close_at(self, other: &mut TwoPorts) -> Closing {
+    pub fn close_at(self, other: &mut TwoPorts) -> Result<(TwoPorts, SlotClosed), Unclosed> {
         let Sending { two, ticket } = self;
         match other.close(ticket) {
-            Ok(closed) => Closing::Closed(two, closed),
-            Err(Returned { refusal, ticket }) => Closing::Refused(Sending { two, ticket }, refusal),
+            Ok(closed) => Ok((two, closed)),
+            Err(Returned { refusal, ticket }) => Err(Unclosed {
+                sending: Sending { two, ticket },
+                refusal,
+            }),
         }
     }
 
     /// Sends a grant, or takes a note where there is no room for another.
-    fn send(&mut self, blocks: &[Block; 32], notes: &mut [Note; 64], bytes: &mut [u8; 106])
+    fn send(&mut self, memory: &mut Memory)
         requires { 1 ≤ length (view self.old.two.switch).slot.grants }
         ensures { weight (view self.new.two.switch) < weight (view self.old.two.switch) }
     {
+        let Memory {
+            blocks,
+            notes,
+            bytes,
+        } = memory;
         if self.two.depart(&self.ticket, blocks, notes, bytes).is_err() {
             let _ = self.two.make_room(notes);
         }
@@ -105,10 +108,15 @@ impl Sending {
     /// Sends what is left to send, takes a note wherever there is no room for another, and closes the slot.
     pub fn finish(self, memory: &mut Memory) -> (TwoPorts, SlotClosed) {
         match self.close() {
-            Closing::Closed(two, closed) => (two, closed),
-            Closing::Refused(sending, _) => {
+            Ok(closed) => closed,
+            Err(
+                Unclosed {
+                    sending,
+                    refusal: _,
+                },
+            ) => {
                 let mut sending = sending;
-                sending.send(&memory.blocks, &mut memory.notes, &mut memory.bytes);
+                sending.send(memory);
                 sending.finish(memory)
             }
         }

@@ -3,7 +3,7 @@ use Rattle.law.specs.declared.stage.Stage.TheVariants.{Sending}
 use Rattle.switch.specs.Seen.{view, grant_of}
 use Rattle.law.proofs.Pairs.{outputs-pairs}
 use Rattle.calls.proofs.Keeping.{Parting, departs}
-use Rattle.calls.proofs.sending.Sending.depart.Goals as goal
+use Rattle.calls.proofs.sending.Sending.depart_with.Goals as goal
 
 pub invariant_of-self : goal.invariant_of-self
 invariant_of-self c =
