@@ -14,6 +14,7 @@ use arbiters::{Arbiter, Diagonal, Ripple};
 use lines::{ArbiterKind, Frame, SlotLine};
 use machine::Machine;
 use refusals::Refusal;
+use routes::Route;
 use std::alloc::{AllocError, Global};
 
 /// Does a frame on a machine, and writes what it answers.
@@ -31,7 +32,14 @@ fn play_on<A: Arbiter>(
             vci,
             output,
             new_vci,
-        } => machine.set_route(*input, *vci, *output, *new_vci)?,
+        } => {
+            let route = Route {
+                vci: *vci,
+                output: *output,
+                new_vci: *new_vci,
+            };
+            machine.set_route(*input, route)?;
+        }
         Frame::Cell { input, cell } => {
             machine.arrive(*input, cell)?;
         }
