@@ -1,16 +1,11 @@
 -- A pile of three reservations on a diagonal arbiter, and what it means.
-use Rattle.std.specs.Prelude.{◌≡◌, ℕ, true, false, Ok, Err, Result}
-use Rattle.refusals.specs.declared.refusal.Refusal.{Refusal}
-use Rattle.refusals.specs.declared.refusal.Refusal.TheVariants.{PeriodRange}
-use Rattle.arbiters.specs.declared.diagonal.Diagonal.{Diagonal}
-use Rattle.arbiters.specs.declared.reservation.Reservation.{Reservation}
+use Rattle.std.specs.Prelude.{ℕ}
 use Rattle.arbiters.specs.Kinds.{diagonals}
 use Rattle.arbiters.specs.Meaning.{Meaning}
-use Rattle.arbiters.specs.Reservations.{Fresh, reservations}
+use Rattle.arbiters.specs.Reservations.{reservations}
 use Rattle.piles.specs.Three.{Pile}
 use Rattle.piles.specs.Three as of_three
 use Rattle.delays.specs.declared.periods.Periods.{Periods}
-use Rattle.delays.specs.Delays.{longest_wait, period_fits}
 
 -- what the pile means: what a reservation means on an arbiter, three times, on what the diagonal arbiter means
 abbrev pub piled : Meaning Pile
