@@ -41,6 +41,7 @@ impl Player {
     /// Uses a whole piece of the recording: every line that ends in it is played, and what is answered is added to `out`. After
     /// an error, for want of memory, the player is of no use.
     pub fn feed_all(&mut self, piece: &[u8], out: &mut Vec<u8>) -> Result<(), AllocError>
+        // Whatever follows the piece, what is written and then what is still to be written are what was still to be written.
         ensures { OnOk result ((more : List ℕ) → out.new.items ++ still_written (held self.new) more ≡ out.old.items ++ still_written (held self.old) (piece.now ++ more)) }
     {
         let mut rest = piece;

@@ -1,8 +1,6 @@
-use Rattle.std.proofs.Common.{vec_items, ap, sym, ◌∙◌, ◌++◌, List, take}
+use Rattle.std.proofs.Common.{vec_items, ◌∙◌, take}
 use Rattle.std.proofs.lemmas.Slice.{pushed}
 use Rattle.std.proofs.lemmas.List.{flat_map_more, take_more}
-use Rattle.machine.specs.declared.departures.Sent.{Sent}
-use Rattle.player.specs.Written.{sent_lines}
 use Rattle.player.proofs.writing.write_sent.Goals as goal
 
 pub loop-sent-preserved : goal.loop-sent-preserved

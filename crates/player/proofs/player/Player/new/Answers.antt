@@ -1,5 +1,3 @@
-use Rattle.std.proofs.Common.{sym, subst}
-use Rattle.player.specs.Recording.{AnyPieces}
 use Rattle.player.proofs.Pieces.{any-pieces}
 use Rattle.player.proofs.player.Player.new.Goals as goal
 
