@@ -60,17 +60,15 @@ fn split_at_space(text: &[u8]) -> Option<(&[u8], &[u8])> {
 
 /// A decimal number. Numbers above 255 count as 255, which is beyond any port count or period too.
 fn number(text: &[u8]) -> Result<u8, Fault> {
-    if text.is_empty() || !text.iter().all(|byte| byte.is_ascii_digit()) {
+    if text.is_empty() {
         return Err(Fault::NoNumber);
     }
-    Ok(
-        text.iter().fold(
-            0u8,
-            |value, byte| value
-                .saturating_mul(10)
-                .saturating_add(byte.saturating_sub(b'0')),
-        ),
-    )
+    let mut value = 0u8;
+    for byte in text {
+        let digit = (*byte as char).to_digit(10).ok_or(Fault::NoNumber)?;
+        value = value.saturating_mul(10).saturating_add(digit as u8);
+    }
+    Ok(value)
 }
 
 /// Two decimal numbers with a space between them.
