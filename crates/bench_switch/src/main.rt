@@ -7,6 +7,7 @@ use anyhow::anyhow;
 use arbiters::Diagonal;
 use law::Arrival;
 use machine::{Machine, Sent};
+use routes::Route;
 use std::env;
 
 const PORTS: usize = 8;
@@ -64,9 +65,12 @@ fn set_routes(machine: &mut Machine<Diagonal>, random: &mut Generator) -> Vcis {
         for k in 0..ROUTES {
             let x = random.draw();
             let vci = 0x8000 | (x & 0x7FE0) as u16 | k as u16;
-            let output = ((x >> 16) & 7) as u8;
-            let new_vci = ((x >> 32) & 0xFFFF) as u16;
-            let _ = machine.set_route(input as u8, vci, output, new_vci);
+            let route = Route {
+                vci,
+                output: ((x >> 16) & 7) as u8,
+                new_vci: ((x >> 32) & 0xFFFF) as u16,
+            };
+            let _ = machine.set_route(input as u8, route);
             vcis[input][k] = vci;
         }
     }

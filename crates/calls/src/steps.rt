@@ -6,8 +6,18 @@ use crate::sending::{Sending, Unclosed};
 use crate::two_ports::TwoPorts;
 use law::SlotClosed;
 use refusals::Refusal;
+use routes::Route;
 use std::io::Write;
 use switch::ArrivalTicket;
+
+/// Cells with this VCI go to this output, and leave with the new VCI.
+pub fn route(vci: u16, output: u8, new_vci: u16) -> Route {
+    Route {
+        vci,
+        output,
+        new_vci,
+    }
+}
 
 /// Opens a slot.
 pub fn opened<W: Write + Drop>(

@@ -2,7 +2,7 @@
 
 use crate::listing::Listing;
 use crate::memory::{Memory, cell_2345, idle_cell};
-use crate::steps::{closed, decided, departed, opened, sent_line};
+use crate::steps::{closed, decided, departed, opened, route, sent_line};
 use crate::two_ports::TwoPorts;
 use refusals::Refusal;
 use std::io::Write;
@@ -15,14 +15,14 @@ pub fn routes_changed<W: Write + Drop>(out: &mut Listing<W>) -> Result<(), Refus
     let mut memory = Memory::new();
     out.done(
         "set at input 0: 2345 to output 1 as AAAA",
-        two.set_route(0, 0x2345, 1, 0xAAAA),
+        two.set_route(0, route(0x2345, 1, 0xAAAA)),
     );
     let ticket = opened(&mut two, out)?;
     let answer = two.arrive(&ticket, 0, &cell_2345(0x01), &mut memory.blocks);
     out.told("arrive at input 0: 2345", &answer);
     out.done(
         "set at input 0: 2345 to output 0 as BBBB",
-        two.set_route(0, 0x2345, 0, 0xBBBB),
+        two.set_route(0, route(0x2345, 0, 0xBBBB)),
     );
     let two = sent_on(two, ticket, 1, &mut memory, out)?;
     removed(two, &mut memory, out)

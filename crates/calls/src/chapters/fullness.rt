@@ -2,7 +2,7 @@
 
 use crate::listing::Listing;
 use crate::memory::{Memory, cell_0999, cell_2345};
-use crate::steps::{closed, decided, departed, opened, passed};
+use crate::steps::{closed, decided, departed, opened, passed, route};
 use crate::two_ports::TwoPorts;
 use refusals::Refusal;
 use std::io::Write;
@@ -13,8 +13,8 @@ pub fn seventeenth_cell<W: Write + Drop>(out: &mut Listing<W>) -> Result<(), Ref
     writeln!(out, "== the seventeenth waiting cell ==");
     let mut two = TwoPorts::new(7, 1)?;
     let mut memory = Memory::new();
-    two.set_route(0, 0x2345, 1, 0xBEEF)?;
-    two.set_route(1, 0x2345, 1, 0xCAFE)?;
+    two.set_route(0, route(0x2345, 1, 0xBEEF))?;
+    two.set_route(1, route(0x2345, 1, 0xCAFE))?;
     writeln!(
         out,
         "in every slot a cell arrives at input 0 and one at input 1, both for output 1"

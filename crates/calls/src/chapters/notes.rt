@@ -3,7 +3,7 @@
 use crate::listing::Listing;
 use crate::memory::Memory;
 use crate::sending::Sending;
-use crate::steps::{arrived, closed, decided, departed, passed, unclosed};
+use crate::steps::{arrived, closed, decided, departed, passed, route, unclosed};
 use crate::two_ports::TwoPorts;
 use refusals::Refusal;
 use std::io::Write;
@@ -13,8 +13,8 @@ pub fn notes_filling_up<W: Write + Drop>(out: &mut Listing<W>) -> Result<(), Ref
     writeln!(out, "== notes filling up ==");
     let mut two = TwoPorts::new(7, 1)?;
     let mut memory = Memory::new();
-    two.set_route(0, 0x2345, 0, 0xAAAA)?;
-    two.set_route(1, 0x2345, 1, 0xBBBB)?;
+    two.set_route(0, route(0x2345, 0, 0xAAAA))?;
+    two.set_route(1, route(0x2345, 1, 0xBBBB))?;
     for _ in 0..32 {
         two = passed(two, &mut memory)?;
     }

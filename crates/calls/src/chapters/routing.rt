@@ -2,7 +2,7 @@
 
 use crate::listing::Listing;
 use crate::memory::{Memory, cell_2345};
-use crate::steps::opened;
+use crate::steps::{opened, route};
 use crate::two_ports::TwoPorts;
 use refusals::Refusal;
 use std::io::Write;
@@ -13,15 +13,15 @@ pub fn routes<W: Write + Drop>(out: &mut Listing<W>) -> Result<(), Refusal> {
     let mut two = TwoPorts::new(7, 1)?;
     out.done(
         "set at input 2: 2345 to output 0 as 1111",
-        two.set_route(2, 0x2345, 0, 0x1111),
+        two.set_route(2, route(0x2345, 0, 0x1111)),
     );
     out.done(
         "set at input 0: 2345 to output 2 as 1111",
-        two.set_route(0, 0x2345, 2, 0x1111),
+        two.set_route(0, route(0x2345, 2, 0x1111)),
     );
     out.done(
         "set at input 0: 2345 to output 0 as 1111",
-        two.set_route(0, 0x2345, 0, 0x1111),
+        two.set_route(0, route(0x2345, 0, 0x1111)),
     );
     out.done("remove at input 0: 2346", two.remove_route(0, 0x2346));
     out.done("remove at input 2: 2346", two.remove_route(2, 0x2346));
@@ -32,25 +32,25 @@ pub fn routes<W: Write + Drop>(out: &mut Listing<W>) -> Result<(), Refusal> {
     );
     out.done(
         "set at input 0: 2346 to output 1 as 2222",
-        two.set_route(0, 0x2346, 1, 0x2222),
+        two.set_route(0, route(0x2346, 1, 0x2222)),
     );
     out.done(
         "set at input 0: 2346 to output 2 as 2222",
-        two.set_route(0, 0x2346, 2, 0x2222),
+        two.set_route(0, route(0x2346, 2, 0x2222)),
     );
     out.done(
         "set at input 0: 2345 to output 1 as BEEF",
-        two.set_route(0, 0x2345, 1, 0xBEEF),
+        two.set_route(0, route(0x2345, 1, 0xBEEF)),
     );
     out.done(
         "set at input 1: 2346 to output 1 as 2222",
-        two.set_route(1, 0x2346, 1, 0x2222),
+        two.set_route(1, route(0x2346, 1, 0x2222)),
     );
     out.done("remove at input 0: 0100", two.remove_route(0, 0x0100));
     out.done("remove at input 0: 0100", two.remove_route(0, 0x0100));
     out.done(
         "set at input 0: 2346 to output 1 as 2222",
-        two.set_route(0, 0x2346, 1, 0x2222),
+        two.set_route(0, route(0x2346, 1, 0x2222)),
     );
     let mut memory = Memory::new();
     let ticket = opened(&mut two, out)?;
@@ -63,7 +63,7 @@ pub fn routes<W: Write + Drop>(out: &mut Listing<W>) -> Result<(), Refusal> {
 fn more_routes(two: &mut TwoPorts) -> u8 {
     let mut set = 0;
     for k in 0..31u8 {
-        if two.set_route(0, 0x0100 + u16::from(k), 1, 0x0200).is_ok() {
+        if two.set_route(0, route(0x0100 + u16::from(k), 1, 0x0200)).is_ok() {
             set = k + 1;
         }
     }

@@ -3,7 +3,7 @@
 use crate::listing::Listing;
 use crate::memory::{Memory, NO_BLOCK, NO_NOTE, cell_0999, cell_2345, idle_cell};
 use crate::sending::Sending;
-use crate::steps::{closed, decided, departed, line_told, opened, sent_line, unclosed};
+use crate::steps::{closed, decided, departed, line_told, opened, route, sent_line, unclosed};
 use crate::two_ports::TwoPorts;
 use refusals::Refusal;
 use std::io::Write;
@@ -14,7 +14,7 @@ pub fn slot_from_open_to_close<W: Write + Drop>(out: &mut Listing<W>) -> Result<
     writeln!(out, "== a slot from open to close ==");
     let mut two = TwoPorts::new(7, 1)?;
     let mut memory = Memory::new();
-    two.set_route(0, 0x2345, 1, 0xBEEF)?;
+    two.set_route(0, route(0x2345, 1, 0xBEEF))?;
     let ticket = opened(&mut two, out)?;
     let _ = opened(&mut two, out);
     arrivals(&mut two, &ticket, &mut memory, out);

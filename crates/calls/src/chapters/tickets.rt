@@ -3,7 +3,7 @@
 use crate::listing::Listing;
 use crate::memory::{Memory, NO_BLOCK, cell_2345};
 use crate::sending::{Sending, Undecided};
-use crate::steps::{closed, decided, departed, opened, unclosed};
+use crate::steps::{closed, decided, departed, opened, route, unclosed};
 use crate::two_ports::TwoPorts;
 use refusals::Refusal;
 use std::io::Write;
@@ -19,7 +19,7 @@ fn ticket_of(mark: u32, first: u32) -> Result<ArrivalTicket, Refusal> {
 pub fn tickets_of_others<W: Write + Drop>(out: &mut Listing<W>) -> Result<(), Refusal> {
     writeln!(out, "== tickets of other switches ==");
     let mut two = TwoPorts::new(7, 1)?;
-    two.set_route(0, 0x2345, 1, 0xBEEF)?;
+    two.set_route(0, route(0x2345, 1, 0xBEEF))?;
     let mut memory = Memory::new();
     arrivals(&mut two, &mut memory, out)?;
     let two = undecided(two, &mut memory, out)?;

@@ -7,6 +7,7 @@ use crate::two_ports::TwoPorts;
 use arbiters::{Arbiter, Diagonal};
 use law::{Arrival, Block, Departed, Note, SlotClosed};
 use refusals::Refusal;
+use routes::Route;
 use switch::{ArrivalTicket, GrantTicket, Returned, Switch};
 
 impl TwoPorts {
@@ -16,16 +17,10 @@ impl TwoPorts {
         Ok(TwoPorts { switch, noted: 0 })
     }
 
-    pub fn set_route(
-        &mut self,
-        input: u8,
-        vci: u16,
-        output: u8,
-        new_vci: u16,
-    ) -> Result<(), Refusal>
-        ensures { SetsRoute self.old.switch input vci output new_vci result self.new.switch }
+    pub fn set_route(&mut self, input: u8, route: Route) -> Result<(), Refusal>
+        ensures { SetsRoute self.old.switch input route.vci route.output route.new_vci result self.new.switch }
     {
-        self.switch.set_route(input, vci, output, new_vci)
+        self.switch.set_route(input, route)
     }
 
     pub fn remove_route(&mut self, input: u8, vci: u16) -> Result<(), Refusal> {

@@ -7,5 +7,5 @@ pub invariant_of-self : goal.invariant_of-self
 invariant_of-self c =
     let s = c.args.self.now in
     record {
-      kept = (subst (λ o. Steady s.noted (view s.switch) o) (c.set_route.ensures nothing) (sets s.noted (view s.switch) s.kept nothing c.args.input c.args.vci c.args.output c.args.new_vci)).kept;
+      kept = (subst (λ o. Steady s.noted (view s.switch) o) (c.set_route.ensures nothing) (sets s.noted (view s.switch) s.kept nothing c.args.input c.args.route.vci c.args.route.output c.args.route.new_vci)).kept;
     }
