@@ -1,8 +1,8 @@
 -- One turn of the decoder.
-use Rattle.std.proofs.Common.{◌≡◌, ℕ, ◌+◌, ◌-◌, ◌*◌, ◌<◌, ◌≤◌, Bool, not, true, false, cond, ◌&&◌, eqb, ltb, List, [], ◌∷◌, ◌++◌, length, Some, None, IfOk, Ok, Err, Result, sym, refl, ap, ◌∙◌, ap₂, inl, inr, append_assoc, append-nil, arith}
+use Rattle.std.proofs.Common.{◌≡◌, ℕ, ◌+◌, ◌-◌, ◌*◌, ◌<◌, ◌≤◌, true, false, cond, ◌&&◌, eqb, ltb, List, [], ◌∷◌, ◌++◌, length, Some, None, Ok, Err, Result, sym, refl, ap, ◌∙◌, ap₂, inl, inr, append_assoc, append-nil, arith}
 use Rattle.std.proofs.lemmas.List.{length-append}
-use Rattle.std.proofs.lemmas.Bool.{lt-ltb, le-ltb, ne_eqb, cases_eq, cases_Bool, cases_lt, eq-eqb, eqb-true, and_right}
-use Rattle.lines.specs.Hex.{digit, is_digit, front, pairs, hex, value, first_pair, one_further, next_pair}
+use Rattle.std.proofs.lemmas.Bool.{lt-ltb, le-ltb, ne_eqb, cases_eq, cases_Bool, and_right}
+use Rattle.lines.specs.Hex.{digit, is_digit, front, pairs, hex, value, past_space, first_pair}
 
 pub not-both : {T E : Type 0} (x : T) (r : E) → ◌≡◌ {A = Result T E} (Ok x) (Err r) → ⊥
 not-both x r e = let z : ◌≡◌ {A = ℕ} 0 1 = cc in omega arith
@@ -12,10 +12,6 @@ same-value x y e = cc
 
 pub same-error : {T E : Type 0} (x y : E) → ◌≡◌ {A = Result T E} (Err x) (Err y) → x ≡ y
 same-error x y e = cc
-
-pub if_ok : {T E : Type 0} {P Q : T → Type 0} (r : Result T E) → ((x : T) → P x → Q x) → IfOk r P → IfOk r Q
-if_ok (Ok x) f h = f x h
-if_ok (Err e) f h = tt
 
 -- what was decoded before goes before what is left
 abbrev pub before : List ℕ → Result (List ℕ) ℕ → Result (List ℕ) ℕ
@@ -123,7 +119,7 @@ after-pair p n x after (a ∷ b ∷ rest) e =
                 let r : rest ≡ after = ap (λ (y : ℕ × List ℕ). y.1) q in
                 let l : length rest ≡ length after = ap length r in
                 record {
-                  two = omega (arith, l);
+                  two = omega arith;
                   pairs = one-pair (n + 1) p a b rest (omega arith) d f ∙ ap₂ (λ (y : ℕ) (ys : List ℕ). front y (from (n + 1) (p + 2) ys)) (ap (λ (y : ℕ × List ℕ). y.0) q) r;
                 }
             | inr f ↦ absurd (not-both _ 1 (sym (rw (d, f) at e)))
@@ -131,56 +127,29 @@ after-pair p n x after (a ∷ b ∷ rest) e =
       | inr d ↦ absurd (not-both _ 0 (sym (rw d at e)))
     ]
 
-no-space : (rest : List ℕ) → first_pair (32 ∷ rest) ≡ Err 0
-unfolding digit
-no-space [] = refl
-no-space (b ∷ rest) = refl
+-- where a pair begins: past a space, if one pair or more came before
+pub record AtPair (n p : ℕ) (rest pair : List ℕ) : Type 0 where
+  pub short : length pair ≤ length rest
+  pub left : from n p rest ≡ pairs (p + (length rest - length pair)) pair
 
--- a pair or a space before it
-pub pair-at-digit : (begun : Bool) (xs : List ℕ) (x : ℕ × List ℕ) → first_pair xs ≡ Ok x → next_pair begun xs ≡ Ok x
-pair-at-digit begun [] x h = h
-pair-at-digit begun (c ∷ rest) x h =
+pub at-first : (n p : ℕ) (rest : List ℕ) → n ≡ 0 → 0 < length rest → AtPair n p rest rest
+at-first n p [] z h = absurd (omega arith)
+at-first n p (c ∷ rest) z h =
+    let l : ltb 0 n ≡ false = le-ltb 0 n (omega arith) in
+    let q : p ≡ p + (length (c ∷ rest) - length (c ∷ rest)) = omega arith in
+    record { short = omega arith; left = rw l (ap (λ (k : ℕ). pairs k (c ∷ rest)) q) }
+
+pub at-later : (n p : ℕ) (rest : List ℕ) → 0 < n → 0 < length rest → AtPair n p rest (past_space rest)
+at-later n p [] z h = absurd (omega arith)
+at-later n p (c ∷ rest) z h =
+    let l : ltb 0 n ≡ true = lt-ltb 0 n z in
     elim (cases_Bool (eqb c 32)) [
-      | inl e ↦ absurd (not-both x 0 (sym h ∙ ap first_pair (ap (λ (b : ℕ). b ∷ rest) (eqb-true c 32 e)) ∙ no-space rest))
-      | inr e ↦ let q : (begun && eqb c 32) ≡ false = and_right begun (eqb c 32) e in rw q h
-    ]
-
-further-ok : {T : Type 0} (r : Result T ℕ) (x : T) → one_further r ≡ Ok x → r ≡ Ok x
-further-ok (Ok y) x e = e
-further-ok (Err k) x e = absurd (not-both x (k + 1) (sym e))
-
-further-wrong : (p k : ℕ) (xs : List ℕ) (r : Result (ℕ × List ℕ) ℕ) → first_pair xs ≡ r → one_further r ≡ Err k → pairs (p + 1) xs ≡ Err (p + k)
-further-wrong p k xs (Ok y) h e = absurd (not-both y k e)
-further-wrong p k xs (Err j) h e =
-    let q : j + 1 ≡ k = same-error (j + 1) k e in
-    let w : p + 1 + j ≡ p + k = omega arith in
-    after-wrong (p + 1) j xs h ∙ ap Err w
-
--- one pair more, after a space or not
-record Turn (n p x : ℕ) (after rest : List ℕ) : Type 0 where
-  pub two : length after + 2 ≤ length rest
-  pub left : from n p rest ≡ front x (from (n + 1) (p + (length rest - length after)) after)
-
-wrong-place : (n p k : ℕ) (rest : List ℕ) → next_pair (ltb 0 n) rest ≡ Err k → 0 < length rest → from n p rest ≡ Err (p + k)
-wrong-place n p k [] e h = absurd (omega arith)
-wrong-place n p k (c ∷ rest) e h =
-    elim (cases_Bool (ltb 0 n && eqb c 32)) [
-      | inl s ↦ rw s (further-wrong p k rest (first_pair rest) refl (rw s at e))
-      | inr s ↦ rw s (after-wrong p k (c ∷ rest) (rw s at e))
-    ]
-
-next-place : (n p x : ℕ) (after rest : List ℕ) → next_pair (ltb 0 n) rest ≡ Ok (x, after) → Turn n p x after rest
-next-place n p x after [] e = absurd (not-both _ 0 (sym e))
-next-place n p x after (c ∷ rest) e =
-    elim (cases_Bool (ltb 0 n && eqb c 32)) [
-      | inl s ↦
-          let b = after-pair (p + 1) n x after rest (further-ok (first_pair rest) (x, after) (rw s at e)) in
-          let q : p + 1 + 2 ≡ p + (length (c ∷ rest) - length after) = omega (arith, b.two) in
-          record { two = omega (arith, b.two); left = rw s (b.pairs ∙ ap (λ (i : ℕ). front x (from (n + 1) i after)) q) }
-      | inr s ↦
-          let b = after-pair p n x after (c ∷ rest) (rw s at e) in
-          let q : p + 2 ≡ p + (length (c ∷ rest) - length after) = omega (arith, b.two) in
-          record { two = omega (arith, b.two); left = rw s (b.pairs ∙ ap (λ (i : ℕ). front x (from (n + 1) i after)) q) }
+      | inl e ↦
+          let q : p + 1 ≡ p + (length (c ∷ rest) - length rest) = omega arith in
+          rw e record { short = omega arith; left = rw (l, e) (ap (λ (k : ℕ). pairs k rest) q) }
+      | inr e ↦
+          let q : p ≡ p + (length (c ∷ rest) - length (c ∷ rest)) = omega arith in
+          rw e record { short = omega arith; left = rw (l, e) (ap (λ (k : ℕ). pairs k (c ∷ rest)) q) }
     ]
 
 -- what was decoded, and what is left of the line
@@ -197,34 +166,23 @@ pub stage-last : (line bytes rest : List ℕ) → length rest ≡ 0 → Stage li
 stage-last line bytes [] h s = sym s.left ∙ ap Ok (append-nil bytes)
 stage-last line bytes (c ∷ rest) h s = absurd (omega arith)
 
-pub begun-since : (e : Bool) (n : ℕ) → e ≡ eqb n 0 → not e ≡ ltb 0 n
-begun-since e n q =
-    elim (cases_lt 0 n) [
-      | inl l ↦
-          let a : eqb n 0 ≡ false = ne_eqb n 0 (λ z. omega arith) in
-          let b : ltb 0 n ≡ true = lt-ltb 0 n l in
-          rw (q, a, b) refl
-      | inr l ↦
-          let a : eqb n 0 ≡ true = eq-eqb n 0 (omega arith) in
-          let b : ltb 0 n ≡ false = le-ltb 0 n l in
-          rw (q, a, b) refl
-    ]
-
-module _ (line bytes rest : List ℕ) (begun : Bool) where
-  pub stage-next : (x : ℕ) (after : List ℕ) → Stage line bytes rest → begun ≡ ltb 0 (length bytes) → next_pair begun rest ≡ Ok (x, after) → Stage line (bytes ++ x ∷ []) after
-  stage-next x after s b e =
-      let p : ℕ = length line - length rest in
-      let t = next-place (length bytes) p x after rest (sym (ap (λ (c : Bool). next_pair c rest) b) ∙ e) in
+module _ (line bytes rest pair : List ℕ) where
+  pub stage-next : (x : ℕ) (after : List ℕ) → Stage line bytes rest → AtPair (length bytes) (length line - length rest) rest pair → first_pair pair ≡ Ok (x, after) → Stage line (bytes ++ x ∷ []) after
+  stage-next x after s a e =
+      let p : ℕ = length line - length rest + (length rest - length pair) in
+      let b = after-pair p (length bytes) x after pair e in
       let n : length (bytes ++ x ∷ []) ≡ length bytes + 1 = length-append bytes (x ∷ []) in
-      let q : length line - length after ≡ p + (length rest - length after) = omega (arith, s.room, t.two) in
+      let q : length line - length after ≡ p + 2 = omega (arith, s.room, a.short, b.two) in
       record {
-        room = omega (arith, s.room, t.two, n);
+        room = omega (arith, s.room, a.short, b.two, n);
         left = ap₂ (λ (k i : ℕ). before (bytes ++ x ∷ []) (from k i after)) n q
-            ∙ sym (before-front bytes x (from (length bytes + 1) (p + (length rest - length after)) after))
-            ∙ ap (before bytes) (sym t.left)
+            ∙ sym (before-front bytes x (from (length bytes + 1) (p + 2) after))
+            ∙ ap (before bytes) (sym b.pairs ∙ sym a.left)
             ∙ s.left;
       }
 
-  pub stage-wrong : (k : ℕ) → Stage line bytes rest → begun ≡ ltb 0 (length bytes) → 0 < length rest → next_pair begun rest ≡ Err k → hex line ≡ Err (length line - length rest + k)
-  stage-wrong k s b h e =
-      sym s.left ∙ ap (before bytes) (wrong-place (length bytes) (length line - length rest) k rest (sym (ap (λ (c : Bool). next_pair c rest) b) ∙ e) h)
+  pub stage-wrong : (k : ℕ) → Stage line bytes rest → AtPair (length bytes) (length line - length rest) rest pair → first_pair pair ≡ Err k → hex line ≡ Err (length line - length pair + k)
+  stage-wrong k s a e =
+      let p : ℕ = length line - length rest + (length rest - length pair) in
+      let q : p ≡ length line - length pair = omega (arith, s.room, a.short) in
+      sym s.left ∙ ap (before bytes) (a.left ∙ after-wrong p k pair e) ∙ ap (λ (i : ℕ). Err (i + k)) q
