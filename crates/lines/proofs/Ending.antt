@@ -1,6 +1,6 @@
 -- The search for the first 0A, and what is kept of a line.
-use Rattle.std.proofs.Common.{◌≡◌, ℕ, zero, suc, ◌+◌, ◌<◌, ◌≤◌, true, false, eqb, List, [], ◌∷◌, ◌++◌, length, get_or, take, drop, min, Some, None, sym, refl, ap, ◌∙◌, inl, inr, append_assoc, append-nil, add-zero, arith}
-use Rattle.std.proofs.lemmas.List.{drop_more, drop_all, take_more, take_more_set, take_all, length-append, length-take-le, take-append-le}
+use Rattle.std.proofs.Common.{◌≡◌, ℕ, zero, suc, ◌+◌, ◌<◌, ◌≤◌, true, false, eqb, List, [], ◌∷◌, ◌++◌, length, get_or, take, drop, min, Some, None, sym, refl, ap, ◌∙◌, inl, inr, arith}
+use Rattle.std.proofs.lemmas.List.{drop_more, drop_all, take_all}
 use Rattle.std.proofs.lemmas.Bool.{ne_eqb, eq-eqb, eqb-true, cases_lt}
 use Rattle.std.proofs.Math.Seq.{take-append-add}
 use Rattle.lines.specs.Lines.{up_to}

@@ -1,4 +1,4 @@
-use Rattle.std.proofs.Common.{◌-◌, List, ℕ, length, subst, sym, ap, ◌∙◌, arith, rules, Bor}
+use Rattle.std.proofs.Common.{◌-◌, List, ℕ, length, subst, sym, ap, ◌∙◌, rules, Bor}
 use Rattle.lines.specs.Frames.{decoded}
 use Rattle.lines.proofs.Decoding.{Stage, AtPair, at-first, at-later, stage-next, stage-wrong}
 use Rattle.lines.proofs.hex.decode.Goals as goal

@@ -1,4 +1,4 @@
-use Rattle.std.proofs.Common.{◌≡◌, ap, ◌∙◌, zero-add, rules}
+use Rattle.std.proofs.Common.{ap, ◌∙◌, zero-add, rules}
 use Rattle.lines.proofs.Decoding.{some-value, no-value}
 use Rattle.lines.proofs.Table.{get_or-values}
 use Rattle.lines.specs.Hex.{digit}

@@ -1,8 +1,8 @@
-use Rattle.std.proofs.Common.{◌≡◌, ℕ, List, [], ◌++◌, length, sym, ap, ◌∙◌, arith, rules}
+use Rattle.std.proofs.Common.{◌≡◌, ℕ, List, ◌++◌, length, ap, ◌∙◌, arith, rules}
 use Rattle.lines.specs.Frames.{frame_of}
 use Rattle.lines.specs.declared.reader.LineReader.{LineReader}
 use Rattle.lines.specs.Lines.{up_to}
-use Rattle.lines.specs.Reading.{Reading, reading, next}
+use Rattle.lines.specs.Reading.{reading, next}
 use Rattle.lines.proofs.Ending.{at_feed, no_feed}
 use Rattle.lines.proofs.Feeding.{fed-line, after_line, fed-none, after_none, said-first, said-later}
 use Rattle.lines.proofs.Cuts.{stepped}

@@ -1,5 +1,5 @@
 use Rattle.std.proofs.Common.{◌≡◌, List, ℕ, sym, ap, subst}
-use Rattle.lines.specs.Reading.{Reading, AnyCut, fresh, reading}
+use Rattle.lines.specs.Reading.{Reading, AnyCut, fresh}
 use Rattle.lines.proofs.Cuts.{any-cut}
 use Rattle.lines.proofs.OneWay.{one_way}
 use Rattle.lines.proofs.reader.LineReader.new.Goals as goal
