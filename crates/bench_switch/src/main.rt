@@ -61,17 +61,16 @@ impl Tally {
 /// Sets 32 random routes at each input, and answers their VCIs.
 fn set_routes(machine: &mut Machine<Diagonal>, random: &mut Generator) -> Vcis {
     let mut vcis = [[0u16; ROUTES]; PORTS];
-    for input in 0..PORTS {
-        for k in 0..ROUTES {
+    for (input, row) in (0..8u8).zip(vcis.iter_mut()) {
+        for (k, vci) in (0..32u16).zip(row.iter_mut()) {
             let x = random.draw();
-            let vci = 0x8000 | (x & 0x7FE0) as u16 | k as u16;
+            *vci = 0x8000 | (x & 0x7FE0) as u16 | k;
             let route = Route {
-                vci,
+                vci: *vci,
                 output: ((x >> 16) & 7) as u8,
                 new_vci: ((x >> 32) & 0xFFFF) as u16,
             };
-            let _ = machine.set_route(input as u8, route);
-            vcis[input][k] = vci;
+            let _ = machine.set_route(input, route);
         }
     }
     vcis
@@ -85,17 +84,13 @@ fn arrivals(
     cell: &mut [u8; 53],
     tally: &mut Tally,
 ) {
-    for input in 0..PORTS {
+    for (input, row) in (0..8u8).zip(vcis.iter()) {
         let y = random.draw();
-        let vci = vcis[input][(y & 31) as usize];
+        let vci = row[(y & 31) as usize];
         let header = (y >> 32) as u32 & 0xFFF0_000F | (vci as u32) << 4;
-        let [first, second, third, fourth] = header.to_be_bytes();
-        cell[0] = first;
-        cell[1] = second;
-        cell[2] = third;
-        cell[3] = fourth;
+        cell[0..4].copy_from_slice(&header.to_be_bytes());
         cell[52] = ((y >> 8) & 0xFF) as u8;
-        match machine.arrive(input as u8, cell) {
+        match machine.arrive(input, cell) {
             Ok(Arrival::Accepted { output, ahead }) => {
                 tally.accepted = tally.accepted.wrapping_add(1);
                 tally.mix((16 * output as u64).wrapping_add(ahead as u64));
@@ -119,8 +114,8 @@ fn departures(machine: &mut Machine<Diagonal>, tally: &mut Tally) {
 /// A cell whose bytes are their own numbers, but for byte 4, which is 0.
 fn numbered() -> [u8; 53] {
     let mut cell = [0; 53];
-    for j in 0..53u8 {
-        cell[j as usize] = j;
+    for (byte, number) in cell.iter_mut().zip(0..53u8) {
+        *byte = number;
     }
     cell[4] = 0;
     cell

@@ -63,7 +63,10 @@ pub fn routes<W: Write + Drop>(out: &mut Listing<W>) -> Result<(), Refusal> {
 fn more_routes(two: &mut TwoPorts) -> u8 {
     let mut set = 0;
     for k in 0..31u8 {
-        if two.set_route(0, route(0x0100 + u16::from(k), 1, 0x0200)).is_ok() {
+        if two
+            .set_route(0, route(0x0100 + u16::from(k), 1, 0x0200))
+            .is_ok()
+        {
             set = k + 1;
         }
     }
