@@ -41,6 +41,7 @@ pub fn spell_into(bytes: &[u8], line: &mut [u8]) -> usize
     ensures line { line.new ≡ spell (take (result / 2) bytes.now) ++ drop result line.old }
 {
     let n = bytes.len().min(line.len() / 2);
+    // A loop over places: `chunks_exact_mut` promises nothing of the whole slice once a chunk is written.
     for i in 0..n {
         line[2 * i] = digit_of(bytes[i] / 16);
         line[2 * i + 1] = digit_of(bytes[i] % 16);
@@ -51,25 +52,26 @@ pub fn spell_into(bytes: &[u8], line: &mut [u8]) -> usize
 fn departure_bytes(sent: &DepartureLine) -> [u8; 64]
     ensures { result ≡ departure_bytes sent.now }
 {
-    let slot = sent.slot.to_be_bytes();
-    let came = sent.came.to_be_bytes();
-    let left = sent.left.to_be_bytes();
+    let [s0, s1, s2, s3] = sent.slot.to_be_bytes();
+    let [c0, c1] = sent.came.to_be_bytes();
+    let [l0, l1] = sent.left.to_be_bytes();
     let front = [
         DEPARTURE,
         sent.output,
-        slot[0],
-        slot[1],
-        slot[2],
-        slot[3],
+        s0,
+        s1,
+        s2,
+        s3,
         sent.input,
-        came[0],
-        came[1],
-        left[0],
-        left[1],
+        c0,
+        c1,
+        l0,
+        l1,
     ];
-    let mut bytes = [0u8; 64];
-    bytes[0..11].copy_from_slice(&front);
-    bytes[11..64].copy_from_slice(&sent.cell);
+    // Two copies: without the heap Rust joins no arrays.
+    let mut bytes = [0; 64];
+    bytes[..11].copy_from_slice(&front);
+    bytes[11..].copy_from_slice(&sent.cell);
     bytes
 }
 
