@@ -3,66 +3,95 @@
 use cells::{Cell, Header};
 use lines::{Frame, SlotLine, spell_into};
 use refusals::Refusal;
-use std::io;
-use std::io::Write;
+use std::fmt::Write;
+use std::{fmt, str};
 
-fn list_cell<W: Write>(number: u32, input: u8, cell: &Cell, out: &mut W) -> io::Result<()> {
-    let Header {
-        gfc,
-        vpi,
-        vci,
-        payload_type,
-        loss_priority,
-    } = Header::from(cell);
-    write!(
-        out,
-        "{number}: cell: input {input}, GFC {gfc:X}, VPI {vpi:02X}, VCI {vci:04X}, PT {payload_type}, CLP {loss_priority}, bytes "
-    )?;
-    let mut text = [b'\n'; 107];
-    spell_into(cell, &mut text);
-    out.write_all(&text)
+/// A cell's bytes, by two digits each.
+#[derive(Clone, Copy)]
+struct Digits<'a>(&'a Cell);
+
+impl fmt::Display for Digits<'_> {
+    fn fmt<W: Write>(&self, f: &mut fmt::Formatter<W>) -> fmt::Result {
+        let Digits(cell) = *self;
+        let mut text = [b'0'; 106];
+        spell_into(cell, &mut text);
+        f.write_str(str::from_utf8(&text).map_err(|_| fmt::Error)?)
+    }
 }
 
-fn list_frame<W: Write>(number: u32, frame: &Frame, out: &mut W) -> io::Result<()> {
-    match frame {
-        Frame::Start {
-            ports,
-            arbiter,
-            mark,
-            first_slot,
-        } => {
-            let code = u8::from(*arbiter);
-            writeln!(
-                out,
-                "{number}: start: {ports} ports, arbiter {code:02X} ({arbiter}), mark {mark:08X}, first slot {first_slot}"
-            )
+/// What a frame says, with its fields.
+#[derive(Clone, Copy)]
+struct Said<'a>(&'a Frame);
+
+impl fmt::Display for Said<'_> {
+    fn fmt<W: Write>(&self, f: &mut fmt::Formatter<W>) -> fmt::Result {
+        match self.0 {
+            Frame::Start {
+                ports,
+                arbiter,
+                mark,
+                first_slot,
+            } => {
+                let code = u8::from(*arbiter);
+                write!(
+                    f,
+                    "start: {ports} ports, arbiter {code:02X} ({arbiter}), mark {mark:08X}, first slot {first_slot}"
+                )
+            }
+            Frame::Route {
+                input,
+                vci,
+                output,
+                new_vci,
+            } => write!(
+                f,
+                "route: input {input}, circuit {vci:04X}, output {output}, new circuit {new_vci:04X}"
+            ),
+            Frame::Cell { input, cell } => {
+                let Header {
+                    gfc,
+                    vpi,
+                    vci,
+                    payload_type,
+                    loss_priority,
+                } = Header::from(cell);
+                let digits = Digits(cell);
+                write!(
+                    f,
+                    "cell: input {input}, GFC {gfc:X}, VPI {vpi:02X}, VCI {vci:04X}, PT {payload_type}, CLP {loss_priority}, bytes {digits}"
+                )
+            }
+            Frame::Close => f.write_str("close"),
         }
-        Frame::Route {
-            input,
-            vci,
-            output,
-            new_vci,
-        } => writeln!(
-            out,
-            "{number}: route: input {input}, circuit {vci:04X}, output {output}, new circuit {new_vci:04X}"
-        ),
-        Frame::Cell { input, cell } => list_cell(number, *input, cell, out),
-        Frame::Close => writeln!(out, "{number}: close"),
     }
 }
 
-fn list_refusal<W: Write>(number: u32, refusal: Refusal, out: &mut W) -> io::Result<()> {
-    let code = refusal.number();
-    match refusal.place() {
-        Some(place) => writeln!(out, "{number}: refused {code:02}: {refusal}, at {place}"),
-        None => writeln!(out, "{number}: refused {code:02}: {refusal}"),
+/// Why a line was refused, and where.
+#[derive(Clone, Copy)]
+struct Refused(Refusal);
+
+impl fmt::Display for Refused {
+    fn fmt<W: Write>(&self, f: &mut fmt::Formatter<W>) -> fmt::Result {
+        let refusal = self.0;
+        let code = refusal.number();
+        write!(f, "refused {code:02}: {refusal}")?;
+        if let Some(place) = refusal.place() {
+            write!(f, ", at {place}")?;
+        }
+        Ok(())
     }
 }
 
-/// One line of text for a slot line: its number, and its frame with its fields or why it was refused.
-pub fn list<W: Write>(line: &SlotLine, out: &mut W) -> io::Result<()> {
-    match &line.frame {
-        Ok(frame) => list_frame(line.number, frame, out),
-        Err(refusal) => list_refusal(line.number, *refusal, out),
+/// A slot line in words: its number, and its frame with its fields or why it was refused.
+#[derive(Clone, Copy)]
+pub struct Listed<'a>(pub &'a SlotLine);
+
+impl fmt::Display for Listed<'_> {
+    fn fmt<W: Write>(&self, f: &mut fmt::Formatter<W>) -> fmt::Result {
+        let number = self.0.number;
+        match &self.0.frame {
+            Ok(frame) => write!(f, "{number}: {}", Said(frame)),
+            Err(refusal) => write!(f, "{number}: {}", Refused(*refusal)),
+        }
     }
 }

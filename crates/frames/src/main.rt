@@ -4,7 +4,7 @@
 mod listing;
 
 use lines::LineReader;
-use listing::list;
+use listing::Listed;
 use std::io::{BufRead, BufReader, BufWriter, Read, Write};
 use std::{env, io};
 
@@ -27,7 +27,7 @@ fn list_chunk<W: Write>(chunk: &[u8], reader: &mut LineReader, out: &mut W) -> i
         let fed = reader.feed(rest);
         rest = &rest[fed.used..];
         if let Some(line) = fed.line {
-            list(&line, out)?;
+            writeln!(out, "{}", Listed(&line))?;
         }
     }
     Ok(())
@@ -48,7 +48,7 @@ fn list_all(rt: &HostRuntime) -> anyhow::Result<()> {
         input.consume(n);
     }
     if let Some(line) = reader.finish() {
-        list(&line, &mut out)?;
+        writeln!(out, "{}", Listed(&line))?;
     }
     Ok(out.flush()?)
 }
