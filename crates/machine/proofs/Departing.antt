@@ -22,9 +22,9 @@ pub record Sized (n : ℕ) (m : Memory) : Type 0 where
   pub notes : length m.notes ≡ 64
   pub bytes : length m.bytes ≡ n * 53
 
-pub lent-sized : (n : ℕ) (blocks : List Block) (notes : List Note) (bytes : List ℕ) → n ≤ 8 → length blocks ≡ 128 → length notes ≡ 64 → length bytes ≡ 424 → Sized n (lent n blocks notes bytes)
-lent-sized n blocks notes bytes l b e c =
-    record { cells = length_part (n * 16) blocks (omega arith); notes = e; bytes = length_part (n * 53) bytes (omega arith) }
+pub lent-sized : (n k : ℕ) (blocks : List Block) (notes : List Note) (bytes : List ℕ) → n ≡ k → k ≤ 8 → length blocks ≡ 128 → length notes ≡ 64 → length bytes ≡ 424 → Sized k (lent n blocks notes bytes)
+lent-sized n k blocks notes bytes same l b e c =
+    record { cells = length_part (n * 16) blocks (omega arith) ∙ ap (λ (p : ℕ). p * 16) same; notes = e; bytes = length_part (n * 53) bytes (omega arith) ∙ ap (λ (p : ℕ). p * 53) same }
 
 -- a departure leaves one grant and one free note block fewer, and a note that waits at its output
 pub record Gone {A : Type 0} (v w : View A) (d : Departed) : Type 0 where
@@ -62,13 +62,12 @@ module _ {A : Type 0} where
         subst (λ (xs : List ℕ). Departure v m (noted v m x rest xs).reply (noted v m x rest xs).view (noted v m x rest xs).memory) (sym f)
         (record { fewer = omega (arith, count); output = outputs.0; waits = waits; room = omega (arith, blocks, left); ports = refl; fits = λ t. refl })
 
-    pub departs : (n : ℕ) (g : Ticket) → Sized n m → CanSend v n g → Outputs v.ports v.slot.grants
+    pub departs : (g : Ticket) → Sized v.ports m → CanSend v g → Outputs v.ports v.slot.grants
         → Departure v m (depart_call v m g).reply (depart_call v m g).view (depart_call v m g).memory
-    departs n g sized can outputs =
-        let same : (k : ℕ) → n * k ≡ v.ports * k = λ k. ap (λ (p : ℕ). p * k) (sym can.ports) in
+    departs g sized can outputs =
         let through : depart_call v m g ≡ sent_first v m v.slot.grants =
         passes ((CellMemoryLength, cells_amiss v m) ∷ (NoteMemoryLength, notes_amiss m) ∷ (SlotBytesLength, bytes_amiss v m) ∷ (WrongTicket, wrong v Sending g) ∷ []) v m (sent_first v m v.slot.grants)
-        (ap not (eq-eqb (length m.cells) (v.ports * 16) (sized.cells ∙ same 16)), (ap not (eq-eqb (length m.notes) 64 sized.notes), (ap not (eq-eqb (length m.bytes) (v.ports * 53) (sized.bytes ∙ same 53)), (can.fits, tt)))) in
+        (ap not (eq-eqb (length m.cells) (v.ports * 16) sized.cells), (ap not (eq-eqb (length m.notes) 64 sized.notes), (ap not (eq-eqb (length m.bytes) (v.ports * 53) sized.bytes), (can.fits, tt)))) in
         subst (λ (o : Outcome A Departed). Departure v m o.reply o.view o.memory) (sym through) (first-departs v.slot.grants v.notes.free refl refl can.room outputs)
 
     oldest-taken : (o : ℕ) (queue : List ℕ) → v.notes.queue o ≡ queue → 1 ≤ length queue → Taking v (oldest v m o queue).reply (oldest v m o queue).view
@@ -85,10 +84,10 @@ module _ {A : Type 0} where
         subst (λ (x : Outcome A Note). Taking v x.reply x.view) (sym through) (oldest-taken o (v.notes.queue o) refl waits)
 
 -- what a departure that was carried out left
-pub gone-by : {A : Type 0} (v w : View A) (n : ℕ) (g : Ticket) (d : Departed) (m x : Memory) → Sized n m → CanSend v n g → Outputs v.ports v.slot.grants
+pub gone-by : {A : Type 0} (v w : View A) (g : Ticket) (d : Departed) (m x : Memory) → Sized v.ports m → CanSend v g → Outputs v.ports v.slot.grants
     → depart_call v m g ≡ record { reply = Ok d; view = w; memory = x } → Gone v w d
-gone-by {A} v w n g d m x sized can outputs departure =
-    subst (λ (o : Outcome A Departed). Departure v m o.reply o.view o.memory) departure (departs v m n g sized can outputs)
+gone-by {A} v w g d m x sized can outputs departure =
+    subst (λ (o : Outcome A Departed). Departure v m o.reply o.view o.memory) departure (departs v m g sized can outputs)
 
 -- and what the taking of its note left
 pub took_by : {A : Type 0} (v w : View A) (o : ℕ) (m : Memory) (r : Result Note Refusal) → o < v.ports → length m.notes ≡ 64 → 1 ≤ length (v.notes.queue o)
@@ -98,11 +97,10 @@ took_by {A} v w o m r port notes waits taking =
 
 -- what can be sent stays so
 pub still-can : {A : Type 0} (v w z : View A) (g : Ticket) (d : Departed) → Gone v w d → (length z.notes.free ≡ 1 + length w.notes.free) × (z.ports ≡ w.ports) × ((t : Ticket) → wrong z Sending t ≡ wrong w Sending t) × (z.slot ≡ w.slot)
-    → (n : ℕ) → CanSend v n g → CanSend z n g
-still-can v w z g d gone took n can =
+    → CanSend v g → CanSend z g
+still-can v w z g d gone took can =
     record {
       fits = took.2 g ∙ (gone.fits g ∙ can.fits);
-      ports = took.1 ∙ (gone.ports ∙ can.ports);
-      eight = can.eight;
+      eight = omega (arith, took.1, gone.ports, can.eight);
       room = omega (arith, took.0, gone.room, can.room);
     }

@@ -13,7 +13,7 @@ after xs t = and_then t (λ ys w. answering (xs ++ ys) w)
 pub record Progress {A : Type 0} (g : Ticket) (s : Standing A) (xs : List Sent) (u : Standing A) : Type 0 where
   pub left : length xs + length u.view.slot.grants ≡ length s.view.slot.grants
   pub told : departing_all (length s.view.slot.grants) g s ≡ after xs (departing_all (length u.view.slot.grants) g u)
-  pub can : (n : ℕ) → CanSend s.view n g → CanSend u.view n g
+  pub can : CanSend s.view g → CanSend u.view g
 
 module _ {A : Type 0} where
   none_before : (r : Result (List Sent) Refusal) (u : Standing A) → ◌≡◌ {A = Told A (List Sent)} (record { reply = r; standing = u }) (following r u (λ ys w. answering ([] ++ ys) w))
@@ -32,7 +32,7 @@ module _ {A : Type 0} where
         (record {
           left = omega arith;
           told = none_before (departing_all (length s.view.slot.grants) g s).reply (departing_all (length s.view.slot.grants) g s).standing;
-          can = λ n can. can;
+          can = λ can. can;
         })
 
     pub one_more : (xs ys : List Sent) (x : Sent) (u w : Standing A) → Progress g s xs u → OneSent g u x w → ys ≡ xs ++ (x ∷ []) → Progress g s ys w
@@ -45,7 +45,7 @@ module _ {A : Type 0} where
         (record {
           left = omega (arith, progress.left, one.fewer, length-append xs (x ∷ []));
           told = progress.told ∙ (ap (after xs) next ∙ twice-before xs x rest.reply rest.standing);
-          can = λ n can. one.can n (progress.can n can);
+          can = λ can. one.can (progress.can can);
         })
 
     pub all-sent : (xs : List Sent) (u w : Standing A) → Progress g s xs u → w ≡ u → u.view.slot.grants ≡ [] → SendsAll g s xs w

@@ -14,6 +14,15 @@ use Rattle.machine.specs.Sending.{OpenEnds}
 use Rattle.machine.specs.Standing.{Standing, Told, Ended, empty_block, empty_note, lent, starting, handed_back, calling, and_then, answering, taking_up, arriving, departing, deciding, finishing, ending}
 
 module _ {A : Type 0} where
+  -- as much memory as n ports need is as much as k need, where n is k
+  pub resized : (v : View A) (n k : ℕ) (blocks : List Block) (notes : List Note) (bytes : List ℕ) (t : Option Ticket) → n ≡ k
+      → ◌≡◌ {A = Standing A} (record { view = v; memory = lent n blocks notes bytes; ticket = t }) (record { view = v; memory = lent k blocks notes bytes; ticket = t })
+  resized v n k blocks notes bytes t e = ap (λ (p : ℕ). record { view = v; memory = lent p blocks notes bytes; ticket = t }) e
+
+  pub told-resized : {T : Type 0} (r : Result T Refusal) (v : View A) (n k : ℕ) (blocks : List Block) (notes : List Note) (bytes : List ℕ) (t : Option Ticket) → n ≡ k
+      → ◌≡◌ {A = Told A T} (record { reply = r; standing = record { view = v; memory = lent n blocks notes bytes; ticket = t } }) (record { reply = r; standing = record { view = v; memory = lent k blocks notes bytes; ticket = t } })
+  told-resized r v n k blocks notes bytes t e = ap (λ (s : Standing A). record { reply = r; standing = s }) (resized v n k blocks notes bytes t e)
+
   -- no slot was open, and one was opened or refused
   pub opened : (s : Standing A) (w : View A) (r : Result Ticket Refusal) (held entry : Option Ticket)
       → open_call s.view s.memory ≡ record { reply = r; view = w; memory = s.memory }

@@ -16,7 +16,7 @@ ticket_of None = None
 ticket_of (Some t) = Some (arrival_of t)
 
 abbrev pub memory_of : {A : Type 0} {G : Ghosts A} → Machine A G → Memory
-memory_of s = lent s.ports s.blocks s.notes s.bytes
+memory_of s = lent (view s.switch).ports s.blocks s.notes s.bytes
 
 abbrev pub standing : {A : Type 0} {G : Ghosts A} → Machine A G → Standing A
 standing s = record { view = view s.switch; memory = memory_of s; ticket = ticket_of s.ticket }

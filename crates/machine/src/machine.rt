@@ -14,13 +14,10 @@ mod calls;
 #[derive(Drop)]
 pub struct Machine<A: Arbiter> {
     switch: Switch<A>,
-    ports: u8,
     ticket: Option<ArrivalTicket>,
     blocks: [Block; 128],
     notes: [Note; 64],
     bytes: [u8; 424],
-    ghost few: { ports ≤ 8 },
-    ghost counted: { (view switch).ports ≡ ports },
     ghost fits: { unfit (view switch) ticket ≡ false },
     ghost room: { 1 ≤ length (view switch).notes.free },
     ghost cells: { length blocks ≡ 128 },

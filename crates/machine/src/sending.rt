@@ -31,17 +31,17 @@ fn cell_at(bytes: &[u8], output: u8) -> Cell
 // The memory comes part by part: of a struct whose three fields a call is lent at once, no proof knew the blocks afterwards.
 fn send_one<A: Arbiter>(
     switch: &mut Switch<A>,
-    ports: u8,
     grants: &GrantTicket,
     blocks: &[Block; 128],
     notes: &mut [Note; 64],
     bytes: &mut [u8; 424],
 ) -> Option<Sent>
-    requires { CanSend (view switch.old) ports (grant_of grants.now) }
-    ensures { SendsOne (grant_of grants.now) (sending (view switch.old) ports blocks.now notes.old bytes.old) result (sending (view switch.new) ports blocks.now notes.new bytes.new) }
+    requires { CanSend (view switch.old) (grant_of grants.now) }
+    ensures { SendsOne (grant_of grants.now) (sending (view switch.old) blocks.now notes.old bytes.old) result (sending (view switch.new) blocks.now notes.new bytes.new) }
 {
-    let cells = ports as usize * BLOCKS;
-    let size = ports as usize * CELL_BYTES;
+    let ports = switch.ports().number() as usize;
+    let cells = ports * BLOCKS;
+    let size = ports * CELL_BYTES;
     match switch.depart(grants, &blocks[0..cells], notes, &mut bytes[0..size]) {
         Ok(departed) => match switch.take_note(departed.output, notes) {
             Ok(note) => Some(Sent {
@@ -58,18 +58,17 @@ fn send_one<A: Arbiter>(
 /// Sends all grants that are left.
 pub(crate) fn send_all<A: Arbiter>(
     switch: &mut Switch<A>,
-    ports: u8,
     grants: &GrantTicket,
     blocks: &[Block; 128],
     notes: &mut [Note; 64],
     bytes: &mut [u8; 424],
 ) -> Departures
-    requires { (CanSend (view switch.old) ports (grant_of grants.now)) × (length (view switch.old).slot.grants ≤ 8) }
-    ensures sent { SendsAll (grant_of grants.now) (sending (view switch.old) ports blocks.now notes.old bytes.old) (listed result) (sending (view switch.new) ports blocks.now notes.new bytes.new) }
+    requires { (CanSend (view switch.old) (grant_of grants.now)) × (length (view switch.old).slot.grants ≤ 8) }
+    ensures sent { SendsAll (grant_of grants.now) (sending (view switch.old) blocks.now notes.old bytes.old) (listed result) (sending (view switch.new) blocks.now notes.new bytes.new) }
     ensures sized { (length notes.new ≡ 64) × (length bytes.new ≡ 424) }
 {
     let mut departures = Departures::none();
-    while let Some(sent) = send_one(switch, ports, grants, blocks, notes, bytes) {
+    while let Some(sent) = send_one(switch, grants, blocks, notes, bytes) {
         departures.push(sent);
     }
     departures

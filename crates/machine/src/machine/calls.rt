@@ -45,10 +45,8 @@ impl<A: Arbiter> Machine<A> {
         ensures start { standing result ≡ starting A.meaning arbiter mark first }
         ensures law { Lawful A.meaning arbiter (view result.switch) }
     {
-        let ports = arbiter.ports().number();
         Machine {
             switch: Switch::new(arbiter, mark, first),
-            ports,
             ticket: None,
             blocks: empty_blocks(),
             notes: empty_notes(),
@@ -86,7 +84,7 @@ impl<A: Arbiter> Machine<A> {
         ensures { telling result self.new ≡ arriving (standing self.old) input cell.now }
     {
         let ticket = self.take_up()?;
-        let cells = self.ports as usize * BLOCKS;
+        let cells = self.switch.ports().number() as usize * BLOCKS;
         let answer = self
             .switch
             .arrive(&ticket, input, cell, &mut self.blocks[0..cells]);
@@ -109,12 +107,11 @@ impl<A: Arbiter> Machine<A> {
 
     /// Sends all grants, and closes the slot.
     fn finish(&mut self, grants: GrantTicket) -> EndedSlot
-        requires { (CanSend (view self.old.switch) self.old.ports (grant_of grants)) × (Granted (standing self.old)) }
+        requires { (CanSend (view self.old.switch) (grant_of grants)) × (Granted (standing self.old)) }
         ensures { telling (Ok (ended_of result)) self.new ≡ finishing (grant_of grants) (standing self.old) }
     {
         let departures = send_all(
             &mut self.switch,
-            self.ports,
             &grants,
             &self.blocks,
             &mut self.notes,

@@ -1,4 +1,4 @@
-//! Making a switch.
+//! Making a switch, and the number of ports that it was made with.
 
 ghost use Rattle.law.specs.Law.{Lawful};
 ghost use Rattle.law.specs.Runs.{made};
@@ -7,6 +7,7 @@ ghost use Rattle.std.specs.Prelude.{◌≡◌};
 
 use super::Switch;
 use arbiters::Arbiter;
+use grants::PortCount;
 use law::Stage;
 use pairs::{Ports, Table};
 use queues::Links;
@@ -33,5 +34,12 @@ impl<A: Arbiter> Switch<A> {
             cells: [Links::new(); 8],
             notes: Links::new(),
         }
+    }
+
+    /// How many inputs, and as many outputs, the switch has.
+    pub fn ports(&self) -> PortCount
+        ensures { result.number ≡ (view self.now).ports }
+    {
+        self.ports
     }
 }

@@ -8,7 +8,7 @@ pub loop-sent-init : goal.loop-sent-init
 loop-sent-init g c = begun (grant_of c.args.grants.now) _ (listed c.none-departures.result) c.none-departures.ensures
 
 pub send_one-requires : goal.send_one-requires
-send_one-requires g c = c.loop-sent.invariant.can c.args.ports c.requires.0
+send_one-requires g c = c.loop-sent.invariant.can c.requires.0
 
 pub push-requires : goal.push-requires
 push-requires g c = omega (arith, c.loop-sent.invariant.left, c.in-Some.ensures.fewer, c.requires.1)

@@ -1,4 +1,4 @@
-use Rattle.std.proofs.Common.{◌≤◌, length, sym, ◌∙◌, subst}
+use Rattle.std.proofs.Common.{◌≤◌, length, sym, subst}
 use Rattle.queues.specs.Queues.{Queues}
 use Rattle.law.specs.declared.answers.SlotClosed.{SlotClosed}
 use Rattle.law.specs.Calls.{Outcome}
@@ -11,12 +11,10 @@ pub invariant_of-self : goal.invariant_of-self
 invariant_of-self g c =
     let s = c.args.self.now in
     let sent = c.send_all-departures.ensures.sent in
-    let can = sent.can s.ports c.requires.0 in
+    let can = sent.can c.requires.0 in
     let w = view c.send_all-departures.new.switch in
     let holds = subst (λ (o : Outcome _ SlotClosed). Holds w o) (c.close.ensures.done nothing) (closes w nothing (grant_of c.args.grants)) in
     record {
-      few = s.few;
-      counted = holds.ports ∙ can.ports;
       fits = unfit-none (view c.close.new.self) s.ticket c.requires.1.held;
       room = subst (λ (q : Queues). 1 ≤ length q.free) (sym holds.notes) can.room;
       cells = s.cells;
@@ -28,6 +26,6 @@ pub unreachable-requires : goal.unreachable-requires
 unreachable-requires g c =
     let s = c.args.self.now in
     let sent = c.send_all-departures.ensures.sent in
-    let can = sent.can s.ports c.requires.0 in
+    let can = sent.can c.requires.0 in
     let w = view c.send_all-departures.new.switch in
     subst (λ (o : Outcome _ SlotClosed). Closing o.reply) (c.in-Err.ensures.done nothing) (closed w nothing (grant_of c.args.grants) can.fits sent.none_left)

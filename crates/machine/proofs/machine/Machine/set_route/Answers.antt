@@ -1,4 +1,4 @@
-use Rattle.std.proofs.Common.{◌≤◌, length, sym, ◌∙◌, subst}
+use Rattle.std.proofs.Common.{◌≤◌, length, sym, subst}
 use Rattle.queues.specs.Queues.{Queues}
 use Rattle.switch.specs.Seen.{view}
 use Rattle.machine.proofs.Keeping.{nothing, Steady, unfit-same, sets}
@@ -11,8 +11,6 @@ invariant_of-self g c =
     let w = view c.set_route.new.self in
     let steady = subst (λ o. Steady v o) (c.set_route.ensures nothing) (sets v nothing c.args.input c.args.route.vci c.args.route.output c.args.route.new_vci) in
     record {
-      few = s.few;
-      counted = steady.ports ∙ s.counted;
       fits = unfit-same v w steady.fits s.ticket s.fits;
       room = subst (λ (q : Queues). 1 ≤ length q.free) (sym steady.notes) s.room;
       cells = s.cells;

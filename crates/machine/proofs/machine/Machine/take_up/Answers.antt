@@ -7,7 +7,7 @@ use Rattle.switch.specs.Seen.{view}
 use Rattle.machine.specs.Fitting.{Fits, unfit}
 use Rattle.machine.specs.Machines.{memory_of, standing, ticket_of}
 use Rattle.machine.proofs.Keeping.{nothing, Holds, opens, open-fits}
-use Rattle.machine.proofs.Telling.{opened}
+use Rattle.machine.proofs.Telling.{told-resized, opened}
 use Rattle.machine.proofs.machine.Machine.take_up.Goals as goal
 
 pub invariant_of-self-in-None : goal.invariant_of-self-in-None
@@ -17,8 +17,6 @@ invariant_of-self-in-None g c =
     let w = view c.open.new.self in
     let holds = subst (λ o. Holds v o) (c.open.ensures nothing) (opens v nothing) in
     record {
-      few = s.few;
-      counted = holds.ports ∙ s.counted;
       fits = ap (λ (t : Option ArrivalTicket). unfit w t) c.take.ensures.after;
       room = subst (λ (q : Queues). 1 ≤ length q.free) (sym holds.notes) s.room;
       cells = s.cells;
@@ -31,7 +29,9 @@ returns-in-None g c =
     let s = c.args.self.now in
     let w = view c.open.new.self in
     let none : s.ticket ≡ None = sym c.take.ensures.value ∙ c.in-None.is in
+    let v = view s.switch in
+    let holds = subst (λ o. Holds v o) (c.open.ensures nothing) (opens v nothing) in
     record {
-      answer = opened (standing s) w _ _ _ (c.open.ensures (memory_of s)) (ap ticket_of c.take.ensures.after) (ap ticket_of none);
-      fits = subst (λ (o : Outcome _ Ticket). Fits Arriving o.view o.reply) (c.open.ensures nothing) (open-fits (view s.switch) nothing);
+      answer = told-resized _ w w.ports v.ports s.blocks s.notes s.bytes _ holds.ports ∙ opened (standing s) w _ _ _ (c.open.ensures (memory_of s)) (ap ticket_of c.take.ensures.after) (ap ticket_of none);
+      fits = subst (λ (o : Outcome _ Ticket). Fits Arriving o.view o.reply) (c.open.ensures nothing) (open-fits v nothing);
     }
