@@ -1,4 +1,2 @@
-pub mod Told
-pub mod Turns
 pub mod Reserving
 pub mod Ranges

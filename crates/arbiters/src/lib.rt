@@ -7,8 +7,12 @@ mod period;
 mod reservation;
 mod reserved;
 mod ripple;
+mod turning;
+mod wiring;
 
 pub use arbiter::Arbiter;
-pub use diagonal::Diagonal;
+pub use diagonal::{Diagonal, Diagonals};
 pub use reservation::{Reservation, Unreserved};
-pub use ripple::Ripple;
+pub use ripple::{Ripple, Ripples};
+pub use turning::Turning;
+pub use wiring::Wiring;
