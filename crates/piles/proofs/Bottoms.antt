@@ -1,14 +1,13 @@
 -- An arbiter with no reservation on it is a pile of depth 0.
-use Rattle.std.proofs.Common.{◌≡◌, ℕ, ◌-◌, ◌*◌, ◌≤◌, Bool, false, cond, leb, Some, None, Ok, Err, Result, sym, ap, ap₂, arith}
+use Rattle.std.proofs.Common.{◌≡◌, ℕ, ◌-◌, ◌≤◌, Bool, false, cond, leb, Some, None, Ok, Err, Result, sym, ap, ap₂, arith}
 use Rattle.std.proofs.lemmas.Bool.{and_from, le-leb}
 use Rattle.std.proofs.lemmas.Bool.Decides.{nat_tests}
 use Rattle.refusals.specs.declared.refusal.Refusal.{Refusal}
 use Rattle.refusals.specs.declared.refusal.Refusal.TheVariants.{PortCount}
 use Rattle.grants.specs.declared.port_count.PortCount.{PortCount as Count}
-use Rattle.arbiters.specs.declared.diagonal.Diagonal.{Diagonal}
-use Rattle.arbiters.specs.declared.ripple.Ripple.{Ripple}
-use Rattle.arbiters.specs.Diagonal as diagonal
-use Rattle.arbiters.specs.Ripple as ripple
+use Rattle.arbiters.specs.declared.turning.Turning.{Turning}
+use Rattle.arbiters.specs.Turning as turning
+use Rattle.arbiters.specs.Wirings.{Wired}
 use Rattle.piles.specs.Fits.{ports_fit}
 use Rattle.piles.specs.Deep.{Made, deep_bound, refusal}
 
@@ -22,14 +21,8 @@ unfit n k e h w = ap₂ (λ (b : Bool) (x : Refusal). cond b None (Some x)) no-f
     no-fit : ports_fit n ≡ false
     no-fit = grind (arith, nat_tests)
 
-pub diagonal-made : (n k : ℕ) (r : Result Diagonal Refusal) → diagonal.Made n r
-    → Made 0 n k (n - 1) (λ (s : Diagonal). (s.ports.number ≡ n) × (s.turn ≡ 0)) (λ (s : Diagonal). s.ports.number - 1) r
+pub turning-made : {W : Type 0} (w : Wired) (n k : ℕ) (r : Result (Turning W) Refusal) → turning.Made n r
+    → Made 0 n k (w.turns n - 1) (λ (s : Turning W). (s.ports.number ≡ n) × (s.turn ≡ 0)) (turning.turning {W = W} w).bound r
 unfolding deep_bound
-diagonal-made n k (Ok s) m = (fit n s.ports k m.0, m, ap (λ (x : ℕ). x - 1) m.0)
-diagonal-made n k (Err e) m = unfit n k e m.0 m.1
-
-pub ripple-made : (n k : ℕ) (r : Result Ripple Refusal) → ripple.Made n r
-    → Made 0 n k (n * n - 1) (λ (s : Ripple). (s.ports.number ≡ n) × (s.turn ≡ 0)) (λ (s : Ripple). s.ports.number * s.ports.number - 1) r
-unfolding deep_bound
-ripple-made n k (Ok s) m = (fit n s.ports k m.0, m, ap (λ (x : ℕ). x * x - 1) m.0)
-ripple-made n k (Err e) m = unfit n k e m.0 m.1
+turning-made w n k (Ok s) m = (fit n s.ports k m.0, m, ap (λ (x : ℕ). w.turns x - 1) m.0)
+turning-made w n k (Err e) m = unfit n k e m.0 m.1

@@ -2,9 +2,8 @@
 use Rattle.std.specs.Prelude.{◌≡◌, ℕ, ◌-◌, cond, ◌&&◌, Some, None, Ok, Err, Option, Result}
 use Rattle.refusals.specs.declared.refusal.Refusal.{Refusal}
 use Rattle.refusals.specs.declared.refusal.Refusal.TheVariants.{PeriodRange, PortCount}
-use Rattle.arbiters.specs.declared.diagonal.Diagonal.{Diagonal}
 use Rattle.arbiters.specs.declared.reservation.Reservation.{Reservation}
-use Rattle.arbiters.specs.Kinds.{diagonals}
+use Rattle.arbiters.specs.Kinds.{Diagonal, diagonals}
 use Rattle.arbiters.specs.Periods.{longest}
 use Rattle.arbiters.specs.Reservations.{Fresh, reservations}
 use Rattle.piles.specs.Fits.{period_fits, ports_fit}

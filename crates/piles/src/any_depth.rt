@@ -1,10 +1,10 @@
 //! As many reservations as a type is written deep.
 
-ghost use Rattle.std.specs.Prelude.{◌≡◌, ℕ, suc, ◌-◌, ◌*◌};
+ghost use Rattle.std.specs.Prelude.{◌≡◌, ℕ, suc, ◌-◌};
 ghost use Rattle.arbiters.specs.Reservations.{Fresh};
 ghost use Rattle.piles.specs.Deep.{Made};
 
-use arbiters::{Arbiter, Diagonal, Reservation, Ripple};
+use arbiters::{Arbiter, Reservation, Turning, Wiring};
 use refusals::Refusal;
 
 /// An arbiter with as many reservations on it as its type is written deep, all of one period.
@@ -23,27 +23,15 @@ pub trait Deep: Arbiter + Drop {
         ensures { Made depth ports slots (lowest ports) (fresh ports slots) Self.Arbiter.meaning.bound result };
 }
 
-impl Deep for Diagonal {
+impl<W: Wiring> Deep for Turning<W> {
     ghost depth = { 0 };
 
-    ghost lowest = { λ n. n - 1 };
+    ghost lowest = { λ n. W.Wiring.wired.turns n - 1 };
 
     ghost fresh = { λ n k s. (s.ports.number ≡ n) × (s.turn ≡ 0) };
 
-    fn new(ports: u8, slots: u8) -> Result<Diagonal, Refusal> {
-        Diagonal::new(ports)
-    }
-}
-
-impl Deep for Ripple {
-    ghost depth = { 0 };
-
-    ghost lowest = { λ n. n * n - 1 };
-
-    ghost fresh = { λ n k s. (s.ports.number ≡ n) × (s.turn ≡ 0) };
-
-    fn new(ports: u8, slots: u8) -> Result<Ripple, Refusal> {
-        Ripple::new(ports)
+    fn new(ports: u8, slots: u8) -> Result<Turning<W>, Refusal> {
+        Turning::new(ports)
     }
 }
 
