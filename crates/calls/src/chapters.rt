@@ -1,4 +1,4 @@
-//! The chapters: each drives a switch of its own, with the memory lent to it, and writes what every call answered.
+//! The chapters: each drives a switch of its own, with the scene's memory lent to it, and writes what every call answered.
 
 mod changes;
 mod fullness;

@@ -48,6 +48,14 @@ impl<W: Write + Drop> Listing<W> {
         writeln!(self);
     }
 
+    /// A line for a call that answers the bytes on an output's line.
+    pub fn line(&mut self, call: &str, answer: Result<&[u8], Refusal>) {
+        match answer {
+            Ok(line) => self.bytes(call, line),
+            Err(refusal) => self.refused(call, refusal),
+        }
+    }
+
     /// A line for a call that was refused.
     pub fn refused(&mut self, call: &str, refusal: Refusal) {
         let number = refusal.number();

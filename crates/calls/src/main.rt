@@ -4,6 +4,7 @@
 mod chapters;
 mod listing;
 mod memory;
+mod scene;
 mod sending;
 mod steps;
 mod two_ports;
@@ -14,23 +15,25 @@ use chapters::{
 };
 use listing::Listing;
 use refusals::Refusal;
+use scene::Scene;
 use std::io;
 use std::io::{BufWriter, Write};
 
-fn all_chapters<W: Write + Drop>(out: &mut Listing<W>) -> Result<(), Refusal> {
-    routes(out)?;
-    slot_from_open_to_close(out)?;
-    tickets_of_others(out)?;
-    routes_changed(out)?;
-    seventeenth_cell(out)?;
-    notes_filling_up(out)?;
-    last_slot_number(out)
+fn all_chapters<W: Write + Drop>(scene: &mut Scene<W>) -> Result<(), Refusal> {
+    routes(scene)?;
+    slot_from_open_to_close(scene)?;
+    tickets_of_others(scene)?;
+    routes_changed(scene)?;
+    seventeenth_cell(scene)?;
+    notes_filling_up(scene)?;
+    last_slot_number(scene)
 }
 
 fn main(rt: HostRuntime) -> io::Result<()> {
-    let mut out = Listing::new(BufWriter::new(rt.alloc(), rt.stdout())?);
-    if let Err(refusal) = all_chapters(&mut out) {
-        out.refused("the chapter ends early", refusal);
+    let out = Listing::new(BufWriter::new(rt.alloc(), rt.stdout())?);
+    let mut scene = Scene::new(out);
+    if let Err(refusal) = all_chapters(&mut scene) {
+        scene.out.refused("the chapter ends early", refusal);
     }
-    out.finish()
+    scene.finish()
 }

@@ -3,20 +3,6 @@
 use cells::{CELL_BYTES, Cell};
 use law::{Block, Note};
 
-/// A block in which no cell has been stored yet.
-pub const NO_BLOCK: Block = Block {
-    cell: [0; CELL_BYTES],
-    new_vci: 0,
-};
-
-/// A note block in which no note has been kept yet.
-pub const NO_NOTE: Note = Note {
-    slot: 0,
-    input: 0,
-    came: 0,
-    left: 0,
-};
-
 /// Cell memory, note memory and slot bytes.
 #[derive(Clone, Copy)]
 pub struct Memory {
@@ -28,8 +14,8 @@ pub struct Memory {
 impl Memory {
     pub fn new() -> Self {
         Memory {
-            blocks: [NO_BLOCK; 32],
-            notes: [NO_NOTE; 64],
+            blocks: [Block::EMPTY; 32],
+            notes: [Note::EMPTY; 64],
             bytes: [0; 106],
         }
     }

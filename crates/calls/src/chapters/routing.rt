@@ -1,15 +1,16 @@
 //! The routes of an input.
 
-use crate::listing::Listing;
-use crate::memory::{Memory, cell_2345};
-use crate::steps::{opened, route};
+use crate::memory::cell_2345;
+use crate::scene::Scene;
+use crate::steps::route;
 use crate::two_ports::TwoPorts;
 use refusals::Refusal;
 use std::io::Write;
 
 /// Sets and removes routes, up to the 32 that an input can have.
-pub fn routes<W: Write + Drop>(out: &mut Listing<W>) -> Result<(), Refusal> {
-    writeln!(out, "== routes ==");
+pub fn routes<W: Write + Drop>(scene: &mut Scene<W>) -> Result<(), Refusal> {
+    scene.begin("routes");
+    let out = &mut scene.out;
     let mut two = TwoPorts::new(7, 1)?;
     out.done(
         "set at input 2: 2345 to output 0 as 1111",
@@ -52,10 +53,9 @@ pub fn routes<W: Write + Drop>(out: &mut Listing<W>) -> Result<(), Refusal> {
         "set at input 0: 2346 to output 1 as 2222",
         two.set_route(0, route(0x2346, 1, 0x2222)),
     );
-    let mut memory = Memory::new();
-    let ticket = opened(&mut two, out)?;
-    let answer = two.arrive(&ticket, 0, &cell_2345(0x6A), &mut memory.blocks);
-    out.told("arrive at input 0: 2345", &answer);
+    let ticket = scene.opened(&mut two)?;
+    let cell = cell_2345(0x6A);
+    scene.arrived("arrive at input 0: 2345", &mut two, &ticket, 0, &cell);
     Ok(())
 }
 
