@@ -5,7 +5,7 @@ mod listing;
 
 use lines::LineReader;
 use listing::Listed;
-use std::io::{BufRead, BufReader, BufWriter, Read, Write};
+use std::io::{BufWriter, Write};
 use std::{env, io};
 
 const HELP: &str = "\
@@ -20,33 +20,40 @@ Nothing is played: `slots` does that. A refused line does not stop it.
 It ends with status 1 if input cannot be read or output not written. docs/SLOT-LINES.md has the format.
 ";
 
-/// Lists every line that ends in the chunk.
-fn list_chunk<W: Write>(chunk: &[u8], reader: &mut LineReader, out: &mut W) -> io::Result<()> {
-    let mut rest = chunk;
-    while !rest.is_empty() {
-        let fed = reader.feed(rest);
-        rest = &rest[fed.used..];
-        if let Some(line) = fed.line {
-            writeln!(out, "{}", Listed(&line))?;
+/// A recording that is listed as it is written here.
+#[derive(Drop)]
+struct Lister<W> {
+    reader: LineReader,
+    out: W,
+}
+
+impl<W: Write> Write for Lister<W> {
+    /// Lists every line that ends in the piece.
+    fn write(&mut self, piece: &[u8]) -> io::Result<usize> {
+        let mut rest = piece;
+        while !rest.is_empty() {
+            let fed = self.reader.feed(rest);
+            rest = &rest[fed.used..];
+            if let Some(line) = fed.line {
+                writeln!(self.out, "{}", Listed(&line))?;
+            }
         }
+        Ok(piece.len())
     }
-    Ok(())
+
+    fn flush(&mut self) -> io::Result<()> {
+        self.out.flush()
+    }
 }
 
 /// Lists standard input.
 fn list_all(rt: &HostRuntime) -> anyhow::Result<()> {
-    let mut input = BufReader::new(rt.alloc(), rt.stdin())?;
-    let mut out = BufWriter::new(rt.alloc(), rt.stdout())?;
-    let mut reader = LineReader::new();
-    for _ in 0..u64::MAX {
-        let chunk = input.fill_buf()?;
-        let n = chunk.len();
-        if n == 0 {
-            break;
-        }
-        list_chunk(chunk, &mut reader, &mut out)?;
-        input.consume(n);
-    }
+    let mut lister = Lister {
+        reader: LineReader::new(),
+        out: BufWriter::new(rt.alloc(), rt.stdout())?,
+    };
+    io::copy(&mut rt.stdin(), &mut lister)?;
+    let Lister { reader, mut out } = lister;
     if let Some(line) = reader.finish() {
         writeln!(out, "{}", Listed(&line))?;
     }
