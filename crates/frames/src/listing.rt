@@ -1,6 +1,6 @@
 //! A slot line in words.
 
-use cells::{Cell, Header};
+use cells::{CELL_BYTES, Cell, Header};
 use lines::{Frame, SlotLine, spell_into};
 use refusals::Refusal;
 use std::fmt::Write;
@@ -14,7 +14,7 @@ impl fmt::Display for Digits<'_> {
     fn fmt<W: Write>(&self, f: &mut fmt::Formatter<W>) -> fmt::Result {
         let Digits(cell) = *self;
         // All at once: with a `{byte:02X}` for each byte, 50 MB take 1.37 s and not 0.33 s.
-        let mut text = [b'0'; 106];
+        let mut text = [0; 2 * CELL_BYTES];
         spell_into(cell, &mut text);
         f.write_str(str::from_utf8(&text).map_err(|_| fmt::Error)?)
     }
