@@ -9,6 +9,7 @@ use arbiters::{Arbiter, Reservation};
 use pairs::Table;
 
 /// An arbiter with up to three reservations on it.
+// Each call has an arm for each depth: the depths are types of their own, and no function may make a boxed `dyn` value and hand it out.
 #[derive(Drop)]
 pub enum Pile<A: Arbiter> {
     Bare(A),

@@ -17,6 +17,7 @@ impl<A: Arbiter> Reservation<A> {
     pub fn new(below: A, slots: u8) -> Result<Reservation<A>, Unreserved<A>>
         ensures { Made below slots result }
     {
+        // Both arms hand on the arbiter below, which `map` and `map_err` could not both take.
         match Period::new(slots) {
             Ok(period) => Ok(Reservation {
                 below,

@@ -64,6 +64,7 @@ fn arrivals<W: Write + Drop>(scene: &mut Scene<W>, two: &mut TwoPorts) -> Result
 fn undecided<W: Write + Drop>(scene: &mut Scene<W>, two: TwoPorts) -> Result<TwoPorts, Refusal> {
     let mut other = TwoPorts::new(8, 1)?;
     let ticket = other.open()?;
+    // Each arm goes on in another way, with the scene.
     match Sending::decide(two, ticket) {
         Ok(sending) => Ok(scene.closed(sending)),
         Err(refused) => handed_back(scene, refused, other),

@@ -15,6 +15,7 @@ use switch::{ArrivalTicket, GrantTicket, Returned};
 impl Sending {
     /// Decides the slot of the switch.
     pub fn decide(mut two: TwoPorts, ticket: ArrivalTicket) -> Result<Sending, Undecided> {
+        // Both arms hand on the switch, which `map` and `map_err` could not both take; so too where a slot is closed.
         match two.decide(ticket) {
             Ok(ticket) => Ok(Sending { two, ticket }),
             Err(Returned { refusal, ticket }) => Err(Undecided {

@@ -131,6 +131,7 @@ impl Playing {
     pub(crate) fn play(&mut self, line: &SlotLine, out: &mut Vec<u8>) -> Result<(), AllocError>
         ensures { OnOk result (Does (line_played (stands_as self.old) line.now) (stands_as self.new) out.old.items out.new.items) }
     {
+        // The one place that tells a refusal, which is written, from want of memory, which is handed on.
         match self.play_frame(line, out) {
             Ok(()) => Ok(()),
             Err(Unplayed::Refused(refusal)) => write_refusal(line.number, refusal, out),
