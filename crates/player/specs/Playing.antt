@@ -1,9 +1,8 @@
 -- What the lines of a recording do, one by one.
 use Rattle.std.specs.Prelude.{◌≡◌, ℕ, cond, List, [], ◌++◌, Some, None, Option, Ok, Err, Result}
-use Rattle.arbiters.specs.declared.diagonal.Diagonal.{Diagonal}
-use Rattle.arbiters.specs.declared.ripple.Ripple.{Ripple}
-use Rattle.arbiters.specs.Kinds.{diagonals, ripples, counted, new_diagonal, new_ripple}
+use Rattle.arbiters.specs.Kinds.{Diagonal, Ripple, diagonals, ripples, counted}
 use Rattle.arbiters.specs.Meaning.{Meaning}
+use Rattle.arbiters.specs.Turning.{unturned}
 use Rattle.grants.specs.declared.port_count.PortCount.{PortCount}
 use Rattle.refusals.specs.declared.refusal.Refusal.{Refusal}
 use Rattle.refusals.specs.declared.refusal.Refusal.TheVariants.{OutOfPlace}
@@ -42,8 +41,8 @@ on_machine a s n Close = answered ended_lines n (ending a s)
 
 -- the machine that a start frame names: its port count from 2 to 8, its arbiter just made
 abbrev pub named : ArbiterKind → PortCount → (mark first : ℕ) → Stands
-named DiagonalKind c mark first = on_diagonal (starting diagonals (new_diagonal c) mark first)
-named RippleKind c mark first = on_ripple (starting ripples (new_ripple c) mark first)
+named DiagonalKind c mark first = on_diagonal (starting diagonals (unturned c) mark first)
+named RippleKind c mark first = on_ripple (starting ripples (unturned c) mark first)
 
 abbrev pub with_ports : ArbiterKind → Result PortCount Refusal → (mark first : ℕ) → Result Stands Refusal
 with_ports kind (Ok c) mark first = Ok (named kind c mark first)
