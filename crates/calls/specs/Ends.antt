@@ -1,6 +1,6 @@
 -- What an attempt to close leaves.
 use Rattle.std.specs.Prelude.{◌≡◌, ◌≤◌, length, Ok, Err, Result}
-use Rattle.arbiters.specs.declared.diagonal.Diagonal.{Diagonal}
+use Rattle.arbiters.specs.Kinds.{Diagonal}
 use Rattle.law.specs.declared.answers.SlotClosed.{SlotClosed}
 use Rattle.law.specs.View.{View}
 use Rattle.switch.specs.Seen.{view}
