@@ -1,5 +1,5 @@
 -- What an arbiter means whose turn moves on with every decision, from how it is wired.
-use Rattle.std.specs.Prelude.{◌≡◌, ℕ, ◌-◌, ◌≤◌, Ok, Err, Result}
+use Rattle.std.specs.Prelude.{◌≡◌, ℕ, ◌-◌, ◌<◌, ◌≤◌, Ok, Err, Result}
 use Rattle.refusals.specs.declared.refusal.Refusal.{Refusal}
 use Rattle.refusals.specs.declared.refusal.Refusal.TheVariants.{PortCount as wrong_port_count}
 use Rattle.pairs.specs.Tables.{holds, table_of, within}
@@ -13,6 +13,10 @@ module _ {W : Type 0} where
   abbrev pub Made : ℕ → Result (Turning W) Refusal → Type 0
   Made n (Ok s) = (s.ports.number ≡ n) × (s.turn ≡ 0)
   Made n (Err e) = (2 ≤ n → n ≤ 8 → ⊥) × (e ≡ wrong_port_count)
+
+  -- its turn is one of the turns of its wiring
+  abbrev pub Placed : Wired → Turning W → Type 0
+  Placed w s = s.turn < w.turns s.ports.number
 
   -- as it is just made
   abbrev pub unturned : PortCount → Turning W

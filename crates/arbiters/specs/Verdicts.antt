@@ -22,17 +22,17 @@ module _ {n : ℕ} {F : ℕ → ℕ → Bool} {wait next : ℕ → ℕ → ℕ} 
   means : (i o : ℕ) → i < n → o < n → holds g i o ≡ F i o
   means i o p q = held g (within n F) is i o (omega arith) (omega arith) ∙ within-is n F i o p q
 
-  requested : Requested n r g
+  pub requested : Requested n r g
   requested i o h = let b = chosen i o h in (d.asked i o b.0 b.1 b.2, b.0, b.1)
 
-  apart : Apart g
+  pub apart : Apart g
   apart =
       record {
         inputs = λ i o u a b. let x = chosen i o a in let y = chosen i u b in d.input-once i o u x.0 x.1 y.1 x.2 y.2;
         outputs = λ i j o a b. let x = chosen i o a in let y = chosen j o b in d.output-once i j o x.0 y.0 x.1 x.2 y.2;
       }
 
-  maximal : Maximal n r g
+  pub maximal : Maximal n r g
   maximal i o p q a h = go (d.blocked i o p q a (sym (means i o p q) ∙ h))
     where
       go : ((j : ℕ) × (j < n) × (F j o ≡ true)) ⊎ ((u : ℕ) × (u < n) × (F i u ≡ true)) → Shares g i o

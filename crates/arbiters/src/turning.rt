@@ -9,7 +9,8 @@ mod calls;
 #[derive(Drop)]
 pub struct Turning<W> {
     ports: PortCount,
-    // No ghost field holds it below the turns of `W`: with one, the name of the type in a definition would take what `W` means too.
+    // `new` and `decide` say that it is one of the turns of `W`, and no ghost field does: with one, the name of the type in a definition
+    // would take what `W` means too.
     turn: u8,
     wiring: PhantomData<W>,
 }

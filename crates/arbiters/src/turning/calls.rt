@@ -1,7 +1,7 @@
 //! The calls of an arbiter whose turn moves on.
 
-ghost use Rattle.std.specs.Prelude.{◌≡◌};
-ghost use Rattle.arbiters.specs.Turning.{Made, moved, turning};
+ghost use Rattle.std.specs.Prelude.{◌≡◌, IfOk};
+ghost use Rattle.arbiters.specs.Turning.{Made, Placed, moved, turning};
 ghost use Rattle.arbiters.specs.TurningLemmas.{turning-lawful};
 
 use crate::arbiter::Arbiter;
@@ -15,7 +15,8 @@ use std::marker::PhantomData;
 impl<W: Wiring> Turning<W> {
     /// An arbiter of 2 to 8 ports, at the turn 0.
     pub fn new(ports: u8) -> Result<Turning<W>, Refusal>
-        ensures { Made ports result }
+        ensures made { Made ports result }
+        ensures place { IfOk result (Placed W.Wiring.wired) }
     {
         let ports = PortCount::new(ports)?;
         Ok(Turning {
@@ -52,7 +53,11 @@ impl<W: Wiring> Arbiter for Turning<W> {
         }
     }
 
-    fn decide(&mut self, requests: Table) -> Table {
+    fn decide(&mut self, requests: Table) -> Table
+        ensures answer { result ≡ (turning W.Wiring.wired).answer self.old requests }
+        ensures after { self.new ≡ moved W.Wiring.wired self.old }
+        ensures place { Placed W.Wiring.wired self.new }
+    {
         let granted = W::grants(self.ports, self.turn, requests);
         self.advance();
         granted
