@@ -1,5 +1,8 @@
 //! What the calls answer.
 
+ghost use Rattle.law.specs.Texts.{arrival_text, closed_text, departed_text};
+ghost use Rattle.std.specs.Prelude.{Some};
+
 use std::fmt;
 
 /// What becomes of a cell that arrives: an idle cell is not stored; any other joins the queue of its input and this
@@ -11,6 +14,8 @@ pub enum Arrival {
 }
 
 impl fmt::Display for Arrival {
+    ghost output = { λ answer. Some (arrival_text answer) };
+
     fn fmt<W: fmt::Write>(&self, f: &mut fmt::Formatter<W>) -> fmt::Result {
         match self {
             Arrival::Idle => write!(f, "idle"),
@@ -27,6 +32,8 @@ pub struct Departed {
 }
 
 impl fmt::Display for Departed {
+    ghost output = { λ answer. Some (departed_text answer) };
+
     fn fmt<W: fmt::Write>(&self, f: &mut fmt::Formatter<W>) -> fmt::Result {
         let Departed { input, output } = self;
         write!(f, "from input {input} to output {output}")
@@ -41,6 +48,8 @@ pub struct SlotClosed {
 }
 
 impl fmt::Display for SlotClosed {
+    ghost output = { λ answer. Some (closed_text answer) };
+
     fn fmt<W: fmt::Write>(&self, f: &mut fmt::Formatter<W>) -> fmt::Result {
         let SlotClosed { slot, grants } = self;
         write!(f, "slot {slot}, grants {grants}")

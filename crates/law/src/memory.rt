@@ -1,5 +1,8 @@
 //! What lies in the memory that is lent to a switch.
 
+ghost use Rattle.law.specs.Texts.{note_text};
+ghost use Rattle.std.specs.Prelude.{Some};
+
 use std::fmt;
 
 /// A block of cell memory: a cell as it arrived, and the circuit number that it is to leave with.
@@ -38,6 +41,8 @@ impl Note {
 }
 
 impl fmt::Display for Note {
+    ghost output = { λ note. Some (note_text note) };
+
     fn fmt<W: fmt::Write>(&self, f: &mut fmt::Formatter<W>) -> fmt::Result {
         let Note {
             slot,

@@ -1,5 +1,5 @@
 -- The frame that a line spells, or why it spells none.
-use Rattle.std.specs.Prelude.{ℕ, ◌+◌, ◌*◌, cond, List, length, Ok, Err, Result, ◌==◌, nat_lt, slice_index}
+use Rattle.std.specs.Prelude.{ℕ, ◌+◌, ◌*◌, cond, List, codes, length, Ok, Err, Result, ◌==◌, nat_lt, slice_index}
 use Rattle.std.specs.List.{between}
 use Rattle.refusals.specs.declared.refusal.Refusal.{Refusal}
 use Rattle.refusals.specs.declared.refusal.Refusal.TheVariants.{LineTooLong, WrongDigit, UnknownKind, FrameLength, UnknownArbiter}
@@ -24,6 +24,11 @@ kind_of code = cond (code == 1) (Ok Diagonal) (cond (code == 2) (Ok Ripple) (Err
 abbrev pub code_of : ArbiterKind → ℕ
 code_of Diagonal = 1
 code_of Ripple = 2
+
+-- the arbiter in words
+abbrev pub name_of : ArbiterKind → List ℕ
+name_of Diagonal = codes "diagonal"
+name_of Ripple = codes "ripple"
 
 -- the frame with its arbiter, if its code stands for one
 abbrev pub with_kind : Result ArbiterKind Refusal → (ArbiterKind → Frame) → Result Frame Refusal

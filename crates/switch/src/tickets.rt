@@ -1,5 +1,6 @@
 //! The tickets of a slot: an arrival ticket while cells may arrive, a grant ticket while the grants are sent.
 
+ghost use Rattle.std.specs.Prelude.{Some, codes};
 ghost use Rattle.switch.specs.Spent.{IsSpent};
 
 use refusals::Refusal;
@@ -19,6 +20,8 @@ pub struct ArrivalTicket {
 }
 
 impl fmt::Display for ArrivalTicket {
+    ghost output = { λ _. Some (codes "arrival ticket") };
+
     fn fmt<W: fmt::Write>(&self, f: &mut fmt::Formatter<W>) -> fmt::Result {
         write!(f, "arrival ticket")
     }
