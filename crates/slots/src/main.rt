@@ -4,6 +4,7 @@
 
 use anyhow::anyhow;
 use player::Player;
+use std::alloc::AllocError;
 use std::io::Write;
 use std::{env, io};
 
@@ -28,6 +29,8 @@ struct Playback<W> {
     player: Player,
     gathered: Vec<u8>,
     out: W,
+    /// That there was no memory to play on: told in its own words, and not in those of a write that fails.
+    starved: Option<AllocError>,
 }
 
 impl<W: Write> Playback<W> {
@@ -40,11 +43,21 @@ impl<W: Write> Playback<W> {
 }
 
 impl<W: Write> Write for Playback<W> {
-    /// Plays every line that ends in the piece.
+    /// Plays every line that ends in the piece. What has gathered is handed on between two lines: then the room for it, which is
+    /// allotted at the start, is always enough.
     fn write(&mut self, piece: &[u8]) -> io::Result<usize> {
-        self.player.feed_all(piece, &mut self.gathered)?;
-        if self.gathered.len() >= FULL {
-            self.hand_on()?;
+        let mut rest = piece;
+        while !rest.is_empty() {
+            match self.player.feed(rest, &mut self.gathered) {
+                Ok(used) => rest = &rest[used..],
+                Err(error) => {
+                    self.starved = Some(error);
+                    return Err(error.into());
+                }
+            }
+            if self.gathered.len() >= FULL {
+                self.hand_on()?;
+            }
         }
         Ok(piece.len())
     }
@@ -56,7 +69,15 @@ impl<W: Write> Write for Playback<W> {
 }
 
 /// Ends the recording if all of the input was played.
-fn end(copied: io::Result<u64>, player: Player, gathered: &mut Vec<u8>) -> io::Result<()> {
+fn end(
+    copied: io::Result<u64>,
+    starved: Option<AllocError>,
+    player: Player,
+    gathered: &mut Vec<u8>,
+) -> anyhow::Result<()> {
+    if let Some(error) = starved {
+        return Err(error.into());
+    }
     copied?;
     Ok(player.finish(gathered)?)
 }
@@ -67,17 +88,19 @@ fn play(rt: &HostRuntime) -> anyhow::Result<()> {
         player: Player::new(rt.alloc()),
         gathered: Vec::with_capacity(rt.alloc(), 2 * FULL)?,
         out: rt.stdout(),
+        starved: None,
     };
     let copied = io::copy(&mut rt.stdin(), &mut playback);
     let Playback {
         player,
         mut gathered,
         mut out,
+        starved,
     } = playback;
-    let answer = end(copied, player, &mut gathered);
+    let answer = end(copied, starved, player, &mut gathered);
     out.write_all(&gathered)?;
     out.flush()?;
-    Ok(answer?)
+    answer
 }
 
 fn run(rt: &HostRuntime) -> anyhow::Result<()> {
