@@ -1,11 +1,12 @@
 //! The frame that one line spells.
 
-ghost use Rattle.std.specs.Prelude.{◌≡◌, ◌+◌, ◌≤◌, length};
-ghost use Rattle.lines.specs.Frames.{cell_in, close_in, code_of, four, frame_in, frame_of, kind_of, route_in, start_in, two};
+ghost use Rattle.std.specs.Prelude.{◌≡◌, ◌+◌, ◌≤◌, Some, length};
+ghost use Rattle.lines.specs.Frames.{cell_in, close_in, code_of, four, frame_in, frame_of, kind_of, name_of, route_in, start_in, two};
 ghost use Rattle.lines.specs.Spelled.{FirstWrong, OneReading};
 ghost use Rattle.lines.specs.Spelling.{FramesSpelled};
 
 use crate::hex::decode;
+use arrayvec::ArrayVec;
 use refusals::Refusal;
 use std::fmt;
 
@@ -80,6 +81,8 @@ impl From<ArbiterKind> for u8 {
 }
 
 impl fmt::Display for ArbiterKind {
+    ghost output = { λ kind. Some (name_of kind) };
+
     fn fmt<W: fmt::Write>(&self, f: &mut fmt::Formatter<W>) -> fmt::Result {
         f.write_str(match self {
             ArbiterKind::Diagonal => "diagonal",
@@ -163,6 +166,7 @@ pub fn frame_of(line: &[u8]) -> Result<Frame, Refusal>
     if line.len() > LONGEST {
         return Err(Refusal::LineTooLong);
     }
-    let bytes = decode(line)?;
+    let mut bytes = ArrayVec::new();
+    decode(line, &mut bytes)?;
     frame_in(bytes.as_slice())
 }
