@@ -5,7 +5,7 @@
 use anyhow::anyhow;
 use player::Player;
 use std::alloc::AllocError;
-use std::io::Write;
+use std::io::{BufReader, Write};
 use std::{env, io};
 
 const HELP: &str = "\
@@ -84,13 +84,16 @@ fn end(
 
 /// Plays standard input. What has gathered is written even where the input breaks off.
 fn play(rt: &HostRuntime) -> anyhow::Result<()> {
+    let gathered = Vec::with_capacity(rt.alloc(), 2 * FULL)?;
+    // Its room is asked for before anything is played: want of it is told as a read that failed.
+    let mut input = BufReader::new(rt.alloc(), rt.stdin())?;
     let mut playback = Playback {
         player: Player::new(rt.alloc()),
-        gathered: Vec::with_capacity(rt.alloc(), 2 * FULL)?,
+        gathered,
         out: rt.stdout(),
         starved: None,
     };
-    let copied = io::copy(&mut rt.stdin(), &mut playback);
+    let copied = io::copy(&mut input, &mut playback);
     let Playback {
         player,
         mut gathered,
